@@ -10,13 +10,18 @@ use Rattle.vs_device_parts.specs.{Calls.{HostMoves, Situation, DeviceTree}, Play
 use Rattle.laws_device.proofs.{Named.Tables.{some_after, some_from}, Ringing.{Telling, Tells, host_moves, tells_weaker}, Chains.{Among, alone, alone_so}, Seats.{AgreesBy, Carried}}
 use Rattle.laws_device.{proofs.Keeping.{Keeps, keeps_end}, specs.{Carried.Streamed.{IsStreamed, ports_of}, Honest.{IsFitState, IsWith}, Streams.{AreHeard, AreStreamedWith}}}
 use Rattle.laws_tables.proofs.Fair.{got_one}
+use Rattle.laws_device.specs.Carried.Streamed.{serving_of}
+use Rattle.vs_device_parts.specs.Connections.{with_fault}
+use Rattle.vs_wrap.specs.Wrap.{counted}
+use Rattle.laws_device.proofs.Carried.Changing.{lost_streams}
+use Rattle.std.proofs.{Common.{arith, refl}, lemmas.{Bool.Decides.nat_tests, Grind.common_steps}}
 
 abbrev pub Fact : Type 1
 Fact = Option HostContents → Log → Type 0
 
 -- The streams of a device, where they are carried.
 abbrev pub StreamedOver : Carried → List Handshake → ℕ → ℕ → DeviceState → Fact
-StreamedOver carry lines first port s host log = carry.ok → carry.plain first log → ForSome host (λ h. IsStreamed h log (ports_of port s) s.table lines)
+StreamedOver carry lines first port s host log = carry.ok → carry.plain first log → ForSome host (λ h. IsStreamed h log (ports_of carry.stay port s) s.table lines)
 
 abbrev pub IsToldBy : Carried → Fact → ℕ → ℕ → DeviceState → Telling
 IsToldBy carry fact first port s honest host l =
@@ -34,26 +39,54 @@ heard_before first _ log heard = heard
 
 -- A step on streams, without a call on the host and with one.
 module _ (carry : Carried) (first : ℕ) (hands lines : List Handshake) (port next : ℕ) (s t : DeviceState) (log new : Log) (once : carry.plain first new → carry.plain first log) where
-  pub streams_go : ((h : HostContents) → carry.plain first new → IsStreamed h log (ports_of port s) s.table hands → IsStreamed h new (ports_of next t) t.table lines) → (o : Option HostContents)
+  pub streams_go : ((h : HostContents) → carry.plain first new → IsStreamed h log (ports_of carry.stay port s) s.table hands → IsStreamed h new (ports_of carry.stay next t) t.table lines) → (o : Option HostContents)
       → StreamedOver carry hands first port s o log → StreamedOver carry lines first next t o new
   streams_go step o was = λ is few.
-      some_from o (λ h. IsStreamed h log (ports_of port s) s.table hands) (λ h. IsStreamed h new (ports_of next t) t.table lines) (λ h x. step h few x) (was is (once few))
+      some_from o (λ h. IsStreamed h log (ports_of carry.stay port s) s.table hands) (λ h. IsStreamed h new (ports_of carry.stay next t) t.table lines) (λ h x. step h few x) (was is (once few))
 
-  pub streams_call : (A : HostContents → Type 0) (f : HostContents → HostContents) → ((h : HostContents) → A h → carry.plain first new → IsStreamed h log (ports_of port s) s.table hands
-      → IsStreamed (f h) new (ports_of next t) t.table lines) → (o n : Option HostContents) → Exposes o n A f → StreamedOver carry hands first port s o log → StreamedOver carry lines first next t n new
+  pub streams_call : (A : HostContents → Type 0) (f : HostContents → HostContents) → ((h : HostContents) → A h → carry.plain first new → IsStreamed h log (ports_of carry.stay port s) s.table hands
+      → IsStreamed (f h) new (ports_of carry.stay next t) t.table lines) → (o n : Option HostContents) → Exposes o n A f → StreamedOver carry hands first port s o log → StreamedOver carry lines first next t n new
   streams_call A f step o n made was = λ is few.
-      some_after o n A f (λ h. IsStreamed h log (ports_of port s) s.table hands) (λ h. IsStreamed h new (ports_of next t) t.table lines) made (λ h answers x. step h answers few x) (was is (once few))
+      some_after o n A f (λ h. IsStreamed h log (ports_of carry.stay port s) s.table hands) (λ h. IsStreamed h new (ports_of carry.stay next t) t.table lines) made (λ h answers x. step h answers few x) (was is (once few))
 
 pub put_goes : (carry : Carried) (first : ℕ) (lines : List Handshake) (port : ℕ) (s t : DeviceState) (log : Log) (p : Packet)
-    → ((h : HostContents) → IsStreamed h log (ports_of port s) s.table lines → IsStreamed h (PutPacket p ∷ log) (ports_of port t) t.table lines) → (o : Option HostContents)
+    → ((h : HostContents) → IsStreamed h log (ports_of carry.stay port s) s.table lines → IsStreamed h (PutPacket p ∷ log) (ports_of carry.stay port t) t.table lines) → (o : Option HostContents)
     → StreamedOver carry lines first port s o log → StreamedOver carry lines first port t o (PutPacket p ∷ log)
 put_goes carry first lines port s t log p step =
     streams_go carry first lines lines port port s t log (PutPacket p ∷ log) (carry.before first (PutPacket p) log) (λ h few x. step h x)
+
+-- A fault is counted, or a dropped packet: no REQUEST is served any more.
+pub faulted_lost : (stay : Bool) (s : DeviceState) → (serving_of stay (with_fault s)).lost ≡ true
+faulted_lost stay s = grind (arith, nat_tests, common_steps)
+
+pub dropped_lost : (stay : Bool) (s : DeviceState) → (serving_of stay (record s { dropped = counted s.dropped })).lost ≡ true
+dropped_lost stay s = grind (arith, nat_tests, common_steps)
+
+pub faulted_streams : (stay : Bool) (port : ℕ) (s : DeviceState) (g : HostContents) (log : Log) (lines : List Handshake) → IsFitState s
+    → IsStreamed g log (ports_of stay port s) s.table lines → IsStreamed g log (ports_of stay port (with_fault s)) s.table lines
+faulted_streams stay port s g log lines fits x =
+    lost_streams g log (ports_of stay port s) s.table lines x fits.sound (ports_of stay port (with_fault s)) refl refl refl refl (faulted_lost stay s)
+
+pub faulted : (carry : Carried) (lines : List Handshake) (first port : ℕ) (s : DeviceState) (c : Situation) → With carry lines first port s c
+    → With carry lines first port (with_fault s) c
+faulted carry lines first port s c holds = (
+  holds.0,
+  tells_weaker (IsToldBy carry (StreamedOver carry lines first port s) first port s)
+      (IsToldBy carry (StreamedOver carry lines first port (with_fault s)) first port (with_fault s)) (λ hon o l was. (
+        was.0,
+        λ honest. let p = was.1 honest in (
+          p.0,
+          streams_go carry first lines lines port port s (with_fault s) l.entries l.entries (λ few. few)
+              (λ h few x. faulted_streams carry.stay port s h l.entries lines p.0.fits x) o p.1,
+        ),
+      )) c holds.1,
+)
 
 -- What is known at first of a whole call, and what follows.
 abbrev pub whole : Type 0 → Carried
 whole ok = record {
   ok = ok;
+  stay = true;
   others = λ held. held ≡ [];
   asks = λ f. Unit {0};
   of_host = λ f host. tt;
@@ -158,9 +191,9 @@ module _ (carry : Carried) (first port : ℕ) (s : DeviceState) (v : DeviceConne
       now still p.fits o n l.entries exposes) c d made holds
 
   pub closed_with : (lines : List Handshake) (r t : DeviceState)
-      → (v.closed ≡ true → IsFitState s → (h : HostContents) (log : Log) → IsStreamed h log (ports_of port r) r.table lines → IsStreamed h log (ports_of port t) t.table lines)
-      → (IsFitState s → (h : HostContents) (log : Log) → IsStreamed h log (ports_of port r) r.table lines
-      → IsStreamed (after_close v.stream h) log (ports_of port t) t.table lines)
+      → (v.closed ≡ true → IsFitState s → (h : HostContents) (log : Log) → IsStreamed h log (ports_of carry.stay port r) r.table lines → IsStreamed h log (ports_of carry.stay port t) t.table lines)
+      → (IsFitState s → (h : HostContents) (log : Log) → IsStreamed h log (ports_of carry.stay port r) r.table lines
+      → IsStreamed (after_close v.stream h) log (ports_of carry.stay port t) t.table lines)
       → Closes v c d → IsHeldBy carry (StreamedOver carry lines first port r) first port s c
       → IsHeldBy carry (StreamedOver carry lines first port t) first port s d
   closed_with lines r t was now = closed_held (StreamedOver carry lines first port r) (StreamedOver carry lines first port t)

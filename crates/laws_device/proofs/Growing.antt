@@ -2,7 +2,7 @@
 use Rattle.laws_device.{specs.{Carried.Streamed.ports_of, Honest.IsWith, Named.Streams.HasStreams, Streams.AreStreamedWith}, proofs.Carrying.{With, held_with, plain_with}}
 use Rattle.laws_device.proofs.{Carrying.{ring_and_host, ring_only, with_ring, with_streams}, Changing.grows, Carried.Changing.ends_streams, Named.Tables.entry_by_slot}
 use Rattle.laws_device.proofs.{Named.Tables.{has_changed, value_by_entry}, Steps.changed, Seats.Carried, Walk.Serving.by_slot}
-use Rattle.std.proofs.Common.{◌≡◌, ℕ, List, [], Option, Some, None, refl}
+use Rattle.std.proofs.Common.{◌≡◌, ℕ, true, List, [], Option, Some, None, refl}
 use Rattle.vs_conn.specs.End.{grown}
 use Rattle.vs_flow.specs.Table.{entry_under}
 use Rattle.vs_outside.specs.Host.{HostContents}
@@ -39,7 +39,7 @@ module _ (slot alloc : ℕ) (s : DeviceState) where
       let is = by_slot s.table slot e found in
       changed carry lines first port s (grown_by rise.Done alloc e s) refl refl
       (λ fits. grows carry port s fits e is.among alloc (may_grow e.value.end alloc done))
-      (λ fits h log x. ends_streams h log (ports_of port s) s.table lines x fits.sound e is.among (record e.value { end = grown e.value.end alloc })
+      (λ fits h log x. ends_streams h log (ports_of carry.stay port s) s.table lines x fits.sound e is.among (record e.value { end = grown e.value.end alloc })
       refl refl refl refl refl refl (λ on. on) (λ on. on)) c holds)
 
   pub grow_with : (first port : ℕ) (c : RingContents) → IsWith first port s c → IsWith first port (after_grow slot alloc s) c

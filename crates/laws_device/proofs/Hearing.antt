@@ -26,9 +26,20 @@ use Rattle.laws_tables.{specs.{Drains.delivered, Ends.is_new, Steps.{is_overrun,
 use Rattle.vs_wrap.specs.Wrap.{counted}
 use Rattle.vs_proxy_parts.specs.State.{Handshake}
 use Rattle.vs_uds.specs.OkLine.{ok_text}
+use Rattle.laws_device.proofs.Carried.Changing.{lost_streams}
+use Rattle.laws_device.proofs.Carried.Counted.{Lacks, full_lacks, lost_lacks, none_lacks, odd_lacks, own_lacks, unheard_lacks}
+use Rattle.laws_device.specs.Carried.Streamed.{heard_at, is_heard}
+use Rattle.laws_device.specs.Honest.{IsFitState}
+use Rattle.vs_flow.specs.Flow.{host_asks}
+use Rattle.vs_flow.specs.Table.{IsRising, IsTable, Table}
+use Rattle.vs_outside.specs.Host.{dial_answer, fails_now, is_listened}
 use Rattle.vs_conn.specs.declared.end.Verdict.TheVariants as verdict
 use Rattle.vs_conn.specs.declared.end.Why.TheVariants as why
 use Rattle.vs_outside.specs.declared.host_net.Dialed.TheVariants as dialed
+use Rattle.vs_uds.specs.Path.{path_of}
+use Rattle.laws_device.proofs.Carrying.{dropped_lost, faulted_lost, faulted_streams}
+use Rattle.vs_limits.specs.declared.TheConstants.{DEVICE_CONNECTIONS}
+use Rattle.std.proofs.Common.{nat_lt, suc, ◌<◌}
 
 pub reset_plain : (kind : Kind) (p : Packet) → (is_reset p.header && is_of kind p.header) ≡ true → is_request p ≡ false
 reset_plain kind p is = grind (arith, nat_tests, common_steps, is)
@@ -49,6 +60,21 @@ accept_old e h is = ap (λ (v : Verdict). is_new (after_op (op_named h.op) e h v
 
 pub deliver_old : (e : ConnectionEnd) (h : Header) → verdict_of e h ≡ verdict.Deliver → is_new (end_after e h) ≡ false
 deliver_old e h is = grind (arith, common_steps, is)
+
+-- A table gave as many slots as it has entries, or more.
+given_from : (from : ℕ) (es : List DeviceEntry) (n : ℕ) → IsRising es → All (λ e. from ≤ e.slot) es → All (λ e. e.slot < n) es → from ≤ n → from + length es ≤ n
+given_from from [] n rising least most less = omega (arith, less)
+given_from from (e ∷ es) n rising least most less =
+    let first = least 0 e (omega arith) in
+    let last = most 0 e (omega arith) in
+    let rest = given_from (e.slot + 1) es n (λ i j d before within. rising (suc i) (suc j) d (omega (arith, before)) (omega (arith, within)))
+    (λ i d within. let up = rising 0 (suc i) d (omega arith) (omega (arith, within)) in omega (arith, up))
+    (λ i d within. most (suc i) d (omega (arith, within))) (omega (arith, last)) in
+    omega (arith, first, rest)
+
+entries_given : (t : Table DeviceConnection) → IsTable t → length t.entries ≤ t.given
+entries_given t sound =
+    let least = given_from 0 t.entries t.given sound.rising (λ i d within. omega arith) sound.were_given (omega arith) in omega (arith, least)
 
 module _ (carry : Carried) (lines : List Handshake) (first port : ℕ) (s : DeviceState) (chain : Chain) (h : Header) (wire : FitsWire h) where
   abbrev Streamed : DeviceState → Fact
@@ -87,8 +113,8 @@ module _ (carry : Carried) (lines : List Handshake) (first port : ℕ) (s : Devi
   -- What comes to the streams, of which one may be made or closed.
   abbrev Streams : (HostContents → HostContents) → DeviceState → Type 0
   Streams f t = (payload : List ℕ) (log : Log) → LeftBy carry first port s.cid s.overrun s.table s.replies s.clean log → IsFairLog Device (GotPacket (packet payload) ∷ log)
-      → IsWhole (packet payload) → carry.plain first (GotPacket (packet payload) ∷ log) → (c : HostContents) → IsStreamed c log (ports_of port s) s.table lines
-      → IsStreamed (f c) (GotPacket (packet payload) ∷ log) (ports_of port t) t.table lines
+      → IsWhole (packet payload) → carry.plain first (GotPacket (packet payload) ∷ log) → (c : HostContents) → IsStreamed c log (ports_of carry.stay port s) s.table lines
+      → IsStreamed (f c) (GotPacket (packet payload) ∷ log) (ports_of carry.stay port t) t.table lines
 
   agrees_by : (t : DeviceState) (page : List ℕ) (o n : Option HostContents) (l : EndLog) → Hears t → (come : IsCome page o l)
       → (Streamed s o come.log → Streamed t n (GotPacket (packet come.payload) ∷ come.log)) → AgreesBy carry first port t l × Streamed t n l.entries
@@ -123,8 +149,8 @@ module _ (carry : Carried) (lines : List Handshake) (first port : ℕ) (s : Devi
   calls : (t : DeviceState) (v : Verdict) (c d : Situation) (faults : Bool) (A : HostContents → Type 0) (f : HostContents → HostContents)
       → t.failed ≡ s.failed → t.chain ≡ s.chain → Hears t
       → ((payload : List ℕ) (log : Log) → LeftBy carry first port s.cid s.overrun s.table s.replies s.clean log → IsFairLog Device (GotPacket (packet payload) ∷ log)
-      → IsWhole (packet payload) → carry.plain first (GotPacket (packet payload) ∷ log) → (h : HostContents) → A h → IsStreamed h log (ports_of port s) s.table lines
-      → IsStreamed (f h) (GotPacket (packet payload) ∷ log) (ports_of port t) t.table lines)
+      → IsWhole (packet payload) → carry.plain first (GotPacket (packet payload) ∷ log) → (h : HostContents) → A h → IsStreamed h log (ports_of carry.stay port s) s.table lines
+      → IsStreamed (f h) (GotPacket (packet payload) ∷ log) (ports_of carry.stay port t) t.table lines)
       → HostMoves faults A f c d → Tells Came c → Heard (t, v) d
   calls t v c d faults A f failed chain_is step streams made tells = (
     failed,
@@ -237,7 +263,7 @@ module _ (carry : Carried) (lines : List Handshake) (first port : ℕ) (s : Devi
           → Streams (λ c. c) (with_connection e.slot (heard h e.value) s)
       heard_on v is other undelivered payload log was fair whole few c x =
           let o = known payload log was fair in
-          hears_streams c log (ports_of port s) s.table lines x was.fits.sound (packet payload) whole was.fair fair e there flow o.0 o.1 v is other undelivered
+          hears_streams c log (ports_of carry.stay port s) s.table lines x was.fits.sound (packet payload) whole was.fair fair e there flow o.0 o.1 v is other undelivered
 
       module _ (c : Situation) (tells : Tells Came c) where
         peers : (b : Bool) → is_reset h ≡ b → verdict_of e.value.end h ≡ verdict.Peer
@@ -251,16 +277,16 @@ module _ (carry : Carried) (lines : List Handshake) (first port : ℕ) (s : Devi
             let keep : Bool = keeps_flow h e in
             let gone : DeviceState = keeping keep e.flow (after_leaving e.slot (with_connection e.slot (stream_closed (heard h e.value)) s)) in
             let next : DeviceState → DeviceTree DeviceState = λ t. Done (keeping keep e.flow (after_leaving e.slot t)) in
-            let kept_ports : Ports = record { next = port; clean = kept_if keep e.flow s.clean } in
+            let kept_ports : Ports = record (ports_of carry.stay port s) { clean = kept_if keep e.flow s.clean } in
             let empty = reset_empty e.value.end.kind in
             let leaving_now = λ (payload : List ℕ) (log : Log) (was : LeftBy carry first port s.cid s.overrun s.table s.replies s.clean log)
             (fair : IsFairLog Device (GotPacket (packet payload) ∷ log)). leaves payload log was fair is reset in
             let ends = sym (rst_leaves e.value.end h) ∙ ap (λ (w : Verdict). peer_resets w h) is ∙ reset in
             let heard_streams = λ (payload : List ℕ) (log : Log) (was : LeftBy carry first port s.cid s.overrun s.table s.replies s.clean log)
             (fair : IsFairLog Device (GotPacket (packet payload) ∷ log)) (whole : IsWhole (packet payload)) (g : HostContents)
-            (y : IsStreamed g log (ports_of port s) s.table lines).
-            keeps_streams g (GotPacket (packet payload) ∷ log) (ports_of port s) s.table lines
-            (empty_streams g log (ports_of port s) s.table lines y was.fits.sound (packet payload) whole was.fair fair (empty (packet payload) ends)
+            (y : IsStreamed g log (ports_of carry.stay port s) s.table lines).
+            keeps_streams g (GotPacket (packet payload) ∷ log) (ports_of carry.stay port s) s.table lines
+            (empty_streams g log (ports_of carry.stay port s) s.table lines y was.fits.sound (packet payload) whole was.fair fair (empty (packet payload) ends)
             (reset_plain e.value.end.kind (packet payload) ends)) was.fits.sound e there (known payload log was fair).1 keep in
             let by : (d : Situation) → Closes x.value c d → Heard (gone, verdict.Peer) d = λ d closes. elim closes as
             (λ z. Heard (gone, verdict.Peer) d) [
@@ -291,8 +317,8 @@ module _ (carry : Carried) (lines : List Handshake) (first port : ℕ) (s : Devi
         accepted line written is = quiet (with_connection e.slot (record (heard h e.value) { ok_line = line }) s) verdict.Accept c refl refl
             (λ payload log was fair. accepts payload log was fair line is) (λ payload log was fair whole few c y.
             let o = known payload log was fair in
-            accepts_streams c log (ports_of port s) s.table lines y was.fits.sound (packet payload) whole was.fair fair e there flow o.0 o.1
-            (join_of (look c) c.labelled (count_in c) log (ports_of port s) s.table lines y e there).client line written is) tells
+            accepts_streams c log (ports_of carry.stay port s) s.table lines y was.fits.sound (packet payload) whole was.fair fair e there flow o.0 o.1
+            (join_of (look c) c.labelled (count_in c) log (heard_at c (ports_of carry.stay port s)) s.table lines y e there).client line written is) tells
 
         by_verdict : (v : Verdict) → verdict_of e.value.end h ≡ v → Keeps Heard (with_verdict v (on_known v chain h e s)) c
         by_verdict verdict.Accept is = accepted _ refl is
@@ -317,7 +343,7 @@ module _ (carry : Carried) (lines : List Handshake) (first port : ℕ) (s : Devi
                       (streams_go carry first lines lines port port s (with_connection e.slot (record (heard h e.value) { pending = e.value.pending ++ bytes }) s)
                       come.log (GotPacket (packet come.payload) ∷ come.log) (carry.before first (GotPacket (packet come.payload)) come.log) (λ c some x.
                       let known_now = known come.payload come.log come.was come.fair in
-                      delivers_streams c come.log (ports_of port s) s.table lines x come.was.fits.sound (packet come.payload) come.whole come.was.fair come.fair e there flow
+                      delivers_streams c come.log (ports_of carry.stay port s) s.table lines x come.was.fits.sound (packet come.payload) come.whole come.was.fair come.fair e there flow
                       known_now.0 known_now.1 bytes
                       (read ∙ payload_in came.0 (packet come.payload) come.held (delivered_rw e.value.end (packet come.payload) is)) is) o),
                 )) tells,
@@ -334,67 +360,114 @@ module _ (carry : Carried) (lines : List Handshake) (first port : ℕ) (s : Devi
 
     -- A packet of another flow.
     module _ (none : entry_of s.table (flow_to_host h) ≡ None) (c : Situation) (tells : Tells Came c) where
-      passes : Streams (λ c. c) s
-      passes payload log was fair whole few c x = unknown_streams c log (ports_of port s) s.table lines x was.fits.sound (packet payload) whole was.fair fair none
+      -- A REQUEST that isn't served.
+      abbrev Unserved : DeviceState → (HostContents → Type 0) → Type 0
+      Unserved t A = (payload : List ℕ) (log : Log) (c : HostContents) → IsFitState s → A c → IsStreamed c log (ports_of carry.stay port s) s.table lines
+          → IsStreamed c log (ports_of carry.stay port t) s.table lines × Lacks (heard_at c (ports_of carry.stay port t)).serving (packet payload) log
+
+      passes : (t : DeviceState) (A : HostContents → Type 0) → Unserved t A → (payload : List ℕ) (log : Log)
+          → LeftBy carry first port s.cid s.overrun s.table s.replies s.clean log → IsFairLog Device (GotPacket (packet payload) ∷ log) → IsWhole (packet payload)
+          → (c : HostContents) → A c → IsStreamed c log (ports_of carry.stay port s) s.table lines
+          → IsStreamed c (GotPacket (packet payload) ∷ log) (ports_of carry.stay port t) s.table lines
+      passes t A unserved payload log was fair whole c is x =
+          let y = unserved payload log c was.fits is x in
+          unknown_streams c log (ports_of carry.stay port t) s.table lines y.0 was.fits.sound (packet payload) whole was.fair fair none y.1
 
       replied : (t : DeviceState) (v : Verdict) → (t.failed ≡ s.failed) × (t.chain ≡ s.chain) × (t.cid ≡ s.cid) × (t.overrun ≡ s.overrun)
           × (t.table ≡ s.table) × (t.clean ≡ s.clean)
-          × (t.replies ≡ s.replies ++ reply_to (flow_to_host h) h ∷ []) → is_reset h ≡ false → Heard (t, v) c
-      replied t v (failed, chain_is, cid, overrun, table, clean, replies) plain = quiet t v c failed chain_is (λ payload log was fair.
+          × (t.replies ≡ s.replies ++ reply_to (flow_to_host h) h ∷ []) → is_reset h ≡ false → Unserved t (λ c. Unit {0}) → Heard (t, v) c
+      replied t v (failed, chain_is, cid, overrun, table, clean, replies) plain unserved = quiet t v c failed chain_is (λ payload log was fair.
           rw (cid, overrun, table, clean, replies) (replies_to carry first port s (packet payload) log was fair wire kept none plain))
-          (λ payload log was fair whole few c x. rw (table, clean) (passes payload log was fair whole few c x)) tells
+          (λ payload log was fair whole few c x. subst (λ (u : Table DeviceConnection). IsStreamed c (GotPacket (packet payload) ∷ log) (ports_of carry.stay port t) u lines)
+          (sym table) (passes t (λ c. Unit {0}) unserved payload log was fair whole c tt x)) tells
 
       -- The REQUEST is the first packet of its flow.
       dials : (path : List ℕ) (a : Dialed) (d : Situation) (f : HostContents → HostContents) (t : DeviceState) (faults : Bool) → (t.failed ≡ s.failed) × (t.chain ≡ s.chain)
           × (t.cid ≡ s.cid) × (t.overrun ≡ s.overrun) × (t.table ≡ s.table) × (t.clean ≡ s.clean) × (t.replies ≡ s.replies ++ reply_to (flow_to_host h) h ∷ []) → is_reset h ≡ false
           → HostMoves faults (IsDialed path a) f c d
-          → ((g : HostContents) (log : Log) → IsStreamed g log (ports_of port s) s.table lines → IsStreamed (f g) log (ports_of port s) s.table lines) → Heard (t, verdict.Rst why.NotLive) d
-      dials path a d f t faults (failed, chain_is, cid, overrun, table, clean, replies) plain made carries =
+          → Unserved t (IsDialed path a)
+          → ((g : HostContents) (log : Log) → IsStreamed g log (ports_of carry.stay port t) s.table lines → IsStreamed (f g) log (ports_of carry.stay port t) s.table lines) → Heard (t, verdict.Rst why.NotLive) d
+      dials path a d f t faults (failed, chain_is, cid, overrun, table, clean, replies) plain made unserved carries =
           calls t (verdict.Rst why.NotLive) c d faults (IsDialed path a) f failed chain_is (λ payload log was fair.
           rw (cid, overrun, table, clean, replies) (replies_to carry first port s (packet payload) log was fair wire kept none plain))
-          (λ payload log was fair whole few g is x. rw (table, clean) (carries g (GotPacket (packet payload) ∷ log) (passes payload log was fair whole few g x))) made tells
+          (λ payload log was fair whole few g is x. subst (λ (u : Table DeviceConnection). IsStreamed (f g) (GotPacket (packet payload) ∷ log) (ports_of carry.stay port t) u lines)
+          (sym table) (carries g (GotPacket (packet payload) ∷ log) (passes t (IsDialed path a) unserved payload log was fair whole g is x))) made tells
 
-      dial_by : (path : List ℕ) (a : Dialed) (d : Situation) → Lets (Dial path (flow_to_host h)) a c d → is_assigned h.dst_port ≡ false → is_reset h ≡ false
+      -- No listener is at the path.
+      unheard : (g : HostContents) → dialed.Refused ≡ dial_answer (path_of s.base h.dst_port) g → is_heard (heard_at g (ports_of carry.stay port s)).serving (flow_to_host h) ≡ false
+      unheard g is = by (fails_now g) (is_listened (path_of s.base h.dst_port) g) is
+        where
+          by : (a b : Bool) → dialed.Refused ≡ cond a dialed.Failed (cond b (dialed.Stream (length g.streams + 1)) dialed.Refused) → b ≡ false
+          by a false is = refl
+          by true true is = absurd cc
+          by false true is = absurd cc
+
+      abbrev path : List ℕ
+      path = path_of s.base h.dst_port
+
+      dial_by : (a : Dialed) (d : Situation) → Lets (Dial path (flow_to_host h)) a c d → is_assigned h.dst_port ≡ false → is_reset h ≡ false
           → is_request (packet []) ≡ true → h.kind ≡ 1 → has_place s.table ≡ true → Heard (dial_answered h a s) d
-      dial_by path (dialed.Stream stream) d made outside plain request kind place =
+      dial_by (dialed.Stream stream) d made outside plain request kind place =
           calls (with_dialed (flow_to_host h) h stream s) verdict.Accept c d false (IsDialed path (dialed.Stream stream))
           (after_dial (flow_to_host h) (dialed.Stream stream)) refl refl
           (λ payload log was fair. opens carry first port s (packet payload) log was fair wire kept none stream request kind place)
           (λ payload log was fair whole few g is x.
-          subst (λ (n : ℕ). IsStreamed (after_dial (flow_to_host h) (dialed.Stream n) g) (GotPacket (packet payload) ∷ log) (ports_of port s)
-          (with_dialed (flow_to_host h) h n s).table lines) (sym (dialed_id path stream g (sym is)))
-          (dial_host g log (ports_of port s) s.table lines x was.fits.sound (packet payload) fair request (whole.none (request_empty (packet payload) request)) none h))
+          subst (λ (n : ℕ). IsStreamed (after_dial (flow_to_host h) (dialed.Stream n) g) (GotPacket (packet payload) ∷ log)
+          (ports_of carry.stay port (with_dialed (flow_to_host h) h n s)) (with_dialed (flow_to_host h) h n s).table lines) (sym (dialed_id path stream g (sym is)))
+          (dial_host g log (ports_of carry.stay port s) s.table lines x was.fits.sound (packet payload) fair request (whole.none (request_empty (packet payload) request)) none h))
           made tells
-      dial_by path dialed.Refused d made outside plain request kind place = dials path dialed.Refused d called (with_reply (reply_to (flow_to_host h) h) s) false
-          (refl, refl, refl, refl, refl, refl, refl) plain made (λ g log x. called_host g log (ports_of port s) s.table lines x)
-      dial_by path dialed.Failed d made outside plain request kind place = dials path dialed.Failed d after_failed (with_reply (reply_to (flow_to_host h) h) (with_fault s)) true
-          (refl, refl, refl, refl, refl, refl, refl) plain made (λ g log x. failed_host g log (ports_of port s) s.table lines x)
+      dial_by dialed.Refused d made outside plain request kind place = dials path dialed.Refused d called (with_reply (reply_to (flow_to_host h) h) s) false
+          (refl, refl, refl, refl, refl, refl, refl) plain made (λ payload log g fits is x. (x, unheard_lacks (heard_at g (ports_of carry.stay port s)).serving (packet payload) log (unheard g is)))
+          (λ g log x. called_host g log (ports_of carry.stay port s) s.table lines x)
+      dial_by dialed.Failed d made outside plain request kind place = dials path dialed.Failed d after_failed (with_reply (reply_to (flow_to_host h) h) (with_fault s)) true
+          (refl, refl, refl, refl, refl, refl, refl) plain made (λ payload log g fits is x. (
+            faulted_streams carry.stay port s g log lines fits x,
+            lost_lacks (heard_at g (ports_of carry.stay port (with_fault s))).serving (packet payload) log (faulted_lost carry.stay s),
+          )) (λ g log x. failed_host g log (ports_of carry.stay port (with_fault s)) s.table lines x)
 
-      refused_keeps : is_reset h ≡ false → Heard (refused h s) c
-      refused_keeps plain = replied (with_reply (reply_to (flow_to_host h) h) s) (verdict.Rst why.NotLive) (refl, refl, refl, refl, refl, refl, refl) plain
+      -- The table has no place: it gave as many slots as it has room, or all of them.
+      no_slot : IsFitState s → s.table.room ≡ DEVICE_CONNECTIONS → has_place s.table ≡ false → nat_lt s.table.given s.table.room ≡ false
+      no_slot fits room full = let most = entries_given s.table fits.sound in grind (arith, nat_tests, common_steps, full, room, most)
+
+      refused_keeps : is_reset h ≡ false → Unserved s (λ c. Unit {0}) → Heard (refused h s) c
+      refused_keeps plain unserved =
+          replied (with_reply (reply_to (flow_to_host h) h) s) (verdict.Rst why.NotLive) (refl, refl, refl, refl, refl, refl, refl) plain unserved
 
       asked_by : (is_of Stream h && (h.op == 1)) ≡ true → is_request (packet []) ≡ true
       asked_by is = grind (arith, nat_tests, common_steps, is)
 
+      reset_asks : is_reset h ≡ true → is_request (packet []) ≡ false
+      reset_asks is = grind (arith, nat_tests, common_steps, is)
+
       of_stream : (is_of Stream h && (h.op == 1)) ≡ true → h.kind ≡ 1
       of_stream is = grind (arith, nat_tests, common_steps, is)
+
+      own_flow : is_assigned h.dst_port ≡ true → host_asks (flow_to_host h) ≡ true
+      own_flow mine = grind (arith, nat_tests, common_steps, kept, mine)
 
       unknown : Keeps Heard (on_unknown h s) c
       unknown =
           keeps_if asking Heard (is_reset h) _ _ c (λ is. quiet s verdict.Ignore c refl refl (λ payload log was fair. ignores_it carry first port s
-          (packet payload) log was fair wire kept none is) passes tells) (λ plain.
+          (packet payload) log was fair wire kept none is) (λ payload log was fair whole few c x. passes s (λ c. Unit {0}) (λ payload log c fits one x.
+          (x, none_lacks (heard_at c (ports_of carry.stay port s)).serving (packet payload) log (reset_asks is))) payload log was fair whole c tt x) tells) (λ plain.
           keeps_if asking Heard (is_of Stream h && (h.op == 1)) _ _ c (λ asks.
-          keeps_if asking Heard (is_assigned h.dst_port) _ _ c (λ mine. refused_keeps plain) (λ outside.
+          keeps_if asking Heard (is_assigned h.dst_port) _ _ c (λ mine. refused_keeps plain (λ payload log c fits one x.
+          (x, own_lacks (heard_at c (ports_of carry.stay port s)).serving (packet payload) log (own_flow mine)))) (λ outside.
           keeps_if asking Heard (has_place s.table) _ _ c
-          (λ place. (tt, λ a d made. dial_by _ a d made outside plain (asked_by asks) (of_stream asks) place)) (λ full. refused_keeps plain)))
-          (λ other. replied (with_reply (reply_to (flow_to_host h) h) s) (verdict.Rst (unknown_why h)) (refl, refl, refl, refl, refl, refl, refl) plain))
+          (λ place. (tt, λ a d made. dial_by a d made outside plain (asked_by asks) (of_stream asks) place)) (λ full. refused_keeps plain (λ payload log c fits one x.
+          (x, full_lacks (heard_at c (ports_of carry.stay port s)).serving (packet payload) log (no_slot fits x.streams.slots.0 full))))))
+          (λ other. replied (with_reply (reply_to (flow_to_host h) h) s) (verdict.Rst (unknown_why h)) (refl, refl, refl, refl, refl, refl, refl) plain (λ payload log c fits one x.
+          (x, odd_lacks (heard_at c (ports_of carry.stay port s)).serving (packet payload) log other))))
 
   pub packet_keeps : (c : Situation) → Tells Came c → Keeps Heard (on_packet chain h s) c
   packet_keeps c tells =
       keeps_if asking Heard (is_dropped Device s.cid h) _ _ c (λ is. quiet (record s { dropped = counted s.dropped }) verdict.Ignore c refl refl
       (λ payload log was fair. drops_it carry first port s (packet payload) log was fair wire is) (λ payload log was fair whole few g x.
-      passes_streams g log (ports_of port s) s.table lines x was.fits.sound (packet payload) whole was.fair fair (idle payload log was fair few is)
-      (no_asking payload log was fair)) tells) (λ kept.
+      let t : DeviceState = record s { dropped = counted s.dropped } in
+      passes_streams g log (ports_of carry.stay port t) s.table lines
+      (lost_streams g log (ports_of carry.stay port s) s.table lines x was.fits.sound (ports_of carry.stay port t) refl refl refl refl (dropped_lost carry.stay s))
+      was.fits.sound (packet payload) whole was.fair fair (idle payload log was fair few is) (no_asking payload log was fair)
+      (lost_lacks (heard_at g (ports_of carry.stay port t)).serving (packet payload) log (dropped_lost carry.stay s))) tells) (λ kept.
       keeps_some asking Heard (entry_of s.table (flow_to_host h)) (on_unknown h s)
       (λ e. bind (on_known (verdict_of e.value.end h) chain h e s) (λ t. Done (t, verdict_of e.value.end h))) c
       (λ none. unknown kept none c tells) (λ e is.

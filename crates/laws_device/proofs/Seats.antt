@@ -1,5 +1,5 @@
 -- The device's steps as those of its seat, and what a walk over its conversations carries.
-use Rattle.std.proofs.Common.{◌≡◌, ℕ, true, List, [], ◌∷◌, ap}
+use Rattle.std.proofs.Common.{Bool, List, [], ap, true, ℕ, ◌∷◌, ◌≡◌}
 use Rattle.vs_conn.specs.End.{ConnectionEnd}
 use Rattle.vs_flow.specs.{declared.flow.Flow.Flow, Table.Table}
 use Rattle.vs_limits.specs.declared.TheConstants.{HOST_CID}
@@ -38,11 +38,12 @@ AllFit (p ∷ ps) = FitsWire p.header × AllFit ps
 abbrev pub PutsFit : Log → Type 0
 PutsFit log = AllFit (packets_put log)
 
--- What is carried: whether the host's streams are told of, which other chains may be held, which flows the device may ask for, those with the
+-- What is carried: whether the host's streams are told of, and whether its listeners stay as they are, which other chains may be held, which flows the device may ask for, those with the
 -- host among them, and a fact of the seat that each step keeps. Where the log is plain, which each one before it then was, no payload was
 -- dropped that a stream is to be given.
 pub record Carried : Type 1 where
   pub ok : Type 0
+  pub stay : Bool
   pub others : List Held → Type 0
   pub asks : Flow → Type 0
   pub of_host : (f : Flow) → f.peer ≡ HOST_CID → asks f

@@ -183,5 +183,5 @@ pub tabled_with : (first port : ℕ) (lines : List Handshake) (s : DeviceState) 
     → AreStreamedWith first port lines s a → IsTabledWith first s a
 tabled_with first port lines s a holds streams honest l is few h there f =
     let x = streams honest l is few h there in
-    tied_by _ _ _ _ (left_open first port s l ((holds.1 l is).1 honest) f) (new_streams h l.entries (ports_of port s) s.table lines x f)
-    (λ opened. ap (is_among f) (same_flows s.table.entries) ∙ open_among h l.entries (ports_of port s) s.table lines x f opened)
+    tied_by _ _ _ _ (left_open first port s l ((holds.1 l is).1 honest) f) (new_streams h l.entries (ports_of true port s) s.table lines x f)
+    (λ opened. ap (is_among f) (same_flows s.table.entries) ∙ open_among h l.entries (ports_of true port s) s.table lines x f opened)

@@ -20,7 +20,7 @@ AreHeard first (_ ∷ log) = AreHeard first log
 abbrev pub AreStreamedWith : ℕ → ℕ → List Handshake → DeviceState → Situation → Type 0
 AreStreamedWith first port lines s a =
     a.ring.honest ≡ true
-    → ForSome a.ring.log (λ l. AreHeard first l.entries → ForSome a.host (λ h. IsStreamed h l.entries (ports_of port s) s.table lines))
+    → ForSome a.ring.log (λ l. AreHeard first l.entries → ForSome a.host (λ h. IsStreamed h l.entries (ports_of true port s) s.table lines))
 
 -- A stream of the host has this flow as its label, and the proxy hasn't closed it.
 abbrev pub is_open_in : StreamState → Bool

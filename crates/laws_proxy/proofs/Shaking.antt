@@ -17,6 +17,7 @@ use Rattle.vs_uds.{proofs.Decided.port_fits, specs.ConnectLine.connect_step}
 use Rattle.vs_device_parts.specs.{Calls.{Accept, Allows, CloseStream, HostMoves, IsReadOf, Label, ReadStream, Situation}, Connections.with_client, State.DeviceState}
 use Rattle.vs_device_parts.specs.State.{DeviceConnection}
 use Rattle.laws_proxy.proofs.Ports.{IsTaken, above_then, next_taken}
+use Rattle.laws_device.proofs.Carrying.{faulted}
 use Rattle.vs_outside.specs.declared.host_net.Accepted.TheVariants as accepted
 use Rattle.vs_outside.specs.declared.host_net.StreamRead.TheVariants as read
 use Rattle.vs_uds.specs.declared.scan.Step.TheVariants as step
@@ -45,7 +46,7 @@ module _ (carry : Carried) (first : ℕ) where
 
     -- A call on the host that changes lines.
     calls : (lines : List Handshake) (failed : Bool) (A : HostContents → Type 0) (f : HostContents → HostContents)
-        → ((h : HostContents) (log : Log) → A h → IsStreamed h log (ports_of port s) s.table hands → IsStreamed (f h) log (ports_of port s) s.table lines)
+        → ((h : HostContents) (log : Log) → A h → IsStreamed h log (ports_of carry.stay port s) s.table hands → IsStreamed (f h) log (ports_of carry.stay port s) s.table lines)
         → (c d : Situation) → HostMoves failed A f c d → At hands port s c → At lines port s d
     calls lines failed A f step c d made holds = (
       holds.0,
@@ -58,7 +59,7 @@ module _ (carry : Carried) (first : ℕ) where
     leaves : (failed : Bool) (A : HostContents → Type 0) (c d : Situation) → HostMoves failed A called c d → At hands port s c
         → At hands port s d
     leaves failed A c d made holds =
-        calls hands failed A called (λ h log is x. called_host h log (ports_of port s) s.table hands x) c d made holds
+        calls hands failed A called (λ h log is x. called_host h log (ports_of carry.stay port s) s.table hands x) c d made holds
 
     -- A handshake ends, and its stream is closed.
     drops : (h : Handshake) (c : Situation) → IsOn h hands → At hands port s c
@@ -66,16 +67,17 @@ module _ (carry : Carried) (first : ℕ) where
     drops h c on holds = (
       tt,
       λ a d made. calls (without_stream h.stream hands) false (λ g. Unit {0}) (after_close h.stream) (λ g log any y.
-          dropped_host g log (ports_of port s) s.table hands h.stream h y (hand_of (look g) h.stream hands h y.streams.lines on)) c d made holds,
+          dropped_host g log (ports_of carry.stay port s) s.table hands h.stream h y (hand_of (look g) h.stream hands h y.streams.lines on)) c d made holds,
     )
 
     -- A client is accepted.
     accepted_by : (a : Accepted) (c d : Situation) → Allows Accept a c d → At hands port s c → AfterAccept asking At hands port s a d
     accepted_by (accepted.Stream stream) c d made holds =
         calls (hands ++ record { stream = stream; accepted_at = s.now; line = [] } ∷ []) false (λ h. accepted.Stream stream ≡ accept_answer h)
-        (after_accept (accepted.Stream stream)) (λ h log is x. accepted_host stream s.now h log (ports_of port s) s.table hands (sym is) x) c d made holds
+        (after_accept (accepted.Stream stream)) (λ h log is x. accepted_host stream s.now h log (ports_of carry.stay port s) s.table hands (sym is) x) c d made holds
     accepted_by accepted.None c d made holds = leaves false (λ h. accepted.None ≡ accept_answer h) c d made holds
-    accepted_by accepted.Failed c d made holds = leaves true (λ h. accepted.Failed ≡ accept_answer h) c d made holds
+    accepted_by accepted.Failed c d made holds =
+        let kept = leaves true (λ h. accepted.Failed ≡ accept_answer h) c d made holds in (kept.0, faulted carry hands first port s d kept.1)
 
     -- A byte of a line.
     module _ (stream : ℕ) (line : List ℕ) where
@@ -83,14 +85,14 @@ module _ (carry : Carried) (first : ℕ) where
       rest = without_stream stream hands
 
       abbrev LineOn : Fact
-      LineOn o log = carry.ok → carry.plain first log → ForSome o (IsLineOn hands (ports_of port s) s.table stream line log)
+      LineOn o log = carry.ok → carry.plain first log → ForSome o (IsLineOn hands (ports_of carry.stay port s) s.table stream line log)
 
       module _ (c : Situation) (above : ASSIGNED_FIRST ≤ port) (holds : IsHeldBy carry LineOn first port s c) where
         line_goes : connect_step line ≡ step.More → At hands port s c
         line_goes is = (
           above,
           fact_goes carry first port s LineOn (Streamed hands) (λ o l p x good plain.
-              some_from o (IsLineOn hands (ports_of port s) s.table stream line l.entries) (λ h. IsStreamed h l.entries (ports_of port s) s.table hands)
+              some_from o (IsLineOn hands (ports_of carry.stay port s) s.table stream line l.entries) (λ h. IsStreamed h l.entries (ports_of carry.stay port s) s.table hands)
               (λ h y. y.more is) (x good plain)) c holds,
         )
 
@@ -100,8 +102,8 @@ module _ (carry : Carried) (first : ℕ) where
           λ a d made. (
             above,
             fact_called carry first port s LineOn (Streamed rest) false (λ h. Unit {0}) (after_close stream) (λ o n l exposes p x good plain.
-                some_after o n (λ h. Unit {0}) (after_close stream) (IsLineOn hands (ports_of port s) s.table stream line l.entries)
-                (λ h. IsStreamed h l.entries (ports_of port s) s.table rest) exposes (λ h any y. closed_host stream h l.entries (ports_of port s) s.table rest y.over
+                some_after o n (λ h. Unit {0}) (after_close stream) (IsLineOn hands (ports_of carry.stay port s) s.table stream line l.entries)
+                (λ h. IsStreamed h l.entries (ports_of carry.stay port s) s.table rest) exposes (λ h any y. closed_host stream h l.entries (ports_of carry.stay port s) s.table rest y.over
                 (λ k there. ap (λ (u : Seen). u.label) (sym (some_seen (reading line) k (sym y.here ∙ there)))) y.away) (x good plain)) c d made holds,
           ),
         )
@@ -133,11 +135,11 @@ module _ (carry : Carried) (first : ℕ) where
             (λ o n l p exposes x good plain.
             let t = taken guest flow decided given l p in
             some_after o n (λ h. Unit {0}) (after_label stream flow)
-            (IsLineOn hands (ports_of port s) s.table stream line l.entries)
-            (λ h. IsStreamed h l.entries (ports_of (next_after port) (with_client flow stream s)) (with_client flow stream s).table rest) exposes
-            (λ h any y. subst (λ (n : ℕ). IsStreamed (after_label stream flow h) l.entries (ports_of n (with_client flow stream s)) (with_client flow stream s).table rest)
+            (IsLineOn hands (ports_of carry.stay port s) s.table stream line l.entries)
+            (λ h. IsStreamed h l.entries (ports_of carry.stay (next_after port) (with_client flow stream s)) (with_client flow stream s).table rest) exposes
+            (λ h any y. subst (λ (n : ℕ). IsStreamed (after_label stream flow h) l.entries (ports_of carry.stay n (with_client flow stream s)) (with_client flow stream s).table rest)
             t.gives.port_is
-            (label_host h l.entries (ports_of port s) s.table rest y.over stream flow line y.here y.away (y.ended guest decided).0
+            (label_host h l.entries (ports_of carry.stay port s) s.table rest y.over stream flow line y.here y.away (y.ended guest decided).0
             (y.ended guest decided).1 t.inside p.fits.sound (accepted s.table flow none).absent t.gives.next.port p.matches.flows.once)) (x good plain)) c none holds in (
               asks.0,
               λ a d made. (above_then port above, asks.1 a d made),
@@ -146,19 +148,19 @@ module _ (carry : Carried) (first : ℕ) where
   module _ (h : Handshake) (hands : List Handshake) (port : ℕ) (s : DeviceState) (on : IsOn h hands) (c d : Situation)
       (holds : At hands port s c) where
     came : (n : ℕ) (bytes : List ℕ) (g : HostContents) (log : Log) → IsReadOf h.stream 1 (read.Got n, bytes) g
-        → IsStreamed g log (ports_of port s) s.table hands
-        → IsLineOn (with_line h.stream (h.line ++ bytes) hands) (ports_of port s) s.table h.stream (h.line ++ bytes) log (after_read h.stream (read.Got n) g)
+        → IsStreamed g log (ports_of carry.stay port s) s.table hands
+        → IsLineOn (with_line h.stream (h.line ++ bytes) hands) (ports_of carry.stay port s) s.table h.stream (h.line ++ bytes) log (after_read h.stream (read.Got n) g)
     came n bytes g log answers x =
         let hand = hand_of (look g) h.stream hands h x.streams.lines on in
         let same : without_stream h.stream (with_line h.stream (h.line ++ bytes) hands) ≡ without_stream h.stream hands =
         without_after h.stream (h.line ++ bytes) hands in
         record {
-          over = subst (λ (lines : List Handshake). IsStreamed (after_read h.stream (read.Got n) g) log (ports_of port s) s.table lines) (sym same)
-              (line_over g log (ports_of port s) s.table hands x h.stream n h hand bytes answers.1);
-          here = line_now g log (ports_of port s) s.table hands x h.stream n h hand bytes answers.1;
+          over = subst (λ (lines : List Handshake). IsStreamed (after_read h.stream (read.Got n) g) log (ports_of carry.stay port s) s.table lines) (sym same)
+              (line_over g log (ports_of carry.stay port s) s.table hands x h.stream n h hand bytes answers.1);
+          here = line_now g log (ports_of carry.stay port s) s.table hands x h.stream n h hand bytes answers.1;
           away = subst (λ (lines : List Handshake). All (λ (g : Handshake). g.stream ≢ h.stream) lines) (sym same)
               (without_none h.stream hands x.streams.lines.apart);
-          more = λ more. line_more g log (ports_of port s) s.table hands x h.stream n h hand bytes answers.1 (goes_on (h.line ++ bytes) more);
+          more = λ more. line_more g log (ports_of carry.stay port s) s.table hands x h.stream n h hand bytes answers.1 (goes_on (h.line ++ bytes) more);
           ended = λ guest decided.
               let one = one_byte h.stream n g (sym answers.0) in
               let with_byte : h.line ++ bytes ≡ h.line ++ one.0 ∷ [] = ap (λ (b : List ℕ). h.line ++ b) (answers.1 ∙ one.1) in
@@ -176,7 +178,7 @@ module _ (carry : Carried) (first : ℕ) where
         fact_called carry first port s (Streamed hands port s hands) (LineOn lines port s h.stream line) false
         (IsReadOf h.stream 1 (read.Got n, bytes)) (after_read h.stream (read.Got n)) (λ o k l exposes p x good plain.
         some_after o k (IsReadOf h.stream 1 (read.Got n, bytes)) (after_read h.stream (read.Got n))
-        (λ g. IsStreamed g l.entries (ports_of port s) s.table hands) (IsLineOn lines (ports_of port s) s.table h.stream line l.entries) exposes
+        (λ g. IsStreamed g l.entries (ports_of carry.stay port s) s.table hands) (IsLineOn lines (ports_of carry.stay port s) s.table h.stream line l.entries) exposes
         (λ g answers y. came n bytes g l.entries answers y) (x good plain)) c d made.0 holds.1 in
         record {
           more = line_goes lines port s h.stream line d holds.0 now;
@@ -186,7 +188,8 @@ module _ (carry : Carried) (first : ℕ) where
         }
     byte_came read.Again bytes made = leaves hands port s false (IsReadOf h.stream 1 (read.Again, bytes)) c d made.0 holds
     byte_came read.End bytes made = leaves hands port s false (IsReadOf h.stream 1 (read.End, bytes)) c d made.0 holds
-    byte_came read.Failed bytes made = leaves hands port s true (IsReadOf h.stream 1 (read.Failed, bytes)) c d made.0 holds
+    byte_came read.Failed bytes made =
+        let kept = leaves hands port s true (IsReadOf h.stream 1 (read.Failed, bytes)) c d made.0 holds in (kept.0, faulted carry hands first port s d kept.1)
 
   pub shaking : Shakes asking At
   shaking = record {

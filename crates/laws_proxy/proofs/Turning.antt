@@ -60,7 +60,7 @@ module _ (carry : Carried) (first : ℕ) where
             holds.0,
             fact_called carry first port device (F (h ∷ hands)) (F hands) false (λ g. Unit {0}) (after_close h.stream) (λ o n l exposes p.
                 streams_call carry first (h ∷ hands) hands port port device device l.entries l.entries (λ few. few)
-                (λ g. Unit {0}) (after_close h.stream) (λ g any few x. first_dropped g l.entries (ports_of port device) device.table h hands x) o n exposes) c d made holds.1,
+                (λ g. Unit {0}) (after_close h.stream) (λ g any few x. first_dropped g l.entries (ports_of carry.stay port device) device.table h hands x) o n exposes) c d made holds.1,
           ),
         )
 

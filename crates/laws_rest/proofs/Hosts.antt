@@ -1,5 +1,5 @@
 -- What the host wrote and read of a connection, against the two logs.
-use Rattle.laws_device.specs.Carried.Streamed.{Ports, IsLabelled, IsStreamed, Seen, count_in, line_for, look, seen}
+use Rattle.laws_device.specs.Carried.Streamed.{Ports, IsLabelled, IsStreamed, Seen, count_in, heard_at, line_for, look, seen}
 use Rattle.laws_device.proofs.Carried.{Hosts.{stream_is, there}, Lines.{after_front, ok_front}}
 use Rattle.std.proofs.Common.{◌≡◌, ℕ, ◌-◌, ◌≤◌, Bool, true, false, cond, List, [], ◌++◌, codes, decimal, slice_get, Option, Some, None, refl, sym, ap, subst, ◌∙◌, arith}
 use Rattle.std.{proofs.{Common.option_and_then, lemmas.Option.slice_get_within}, specs.Option.{option_map_or}}
@@ -29,7 +29,7 @@ module _ (c : HostContents) (log : Log) (port : Ports) (t : Table DeviceConnecti
     pub id : ℕ
     pub at : stream_at id c ≡ Some st
     pub label : (seen c id st).label ≡ Some k
-    pub own : IsLabelled (seen c id st) k (count_in c) log port
+    pub own : IsLabelled (seen c id st) k (count_in c) log (heard_at c port)
 
   pub stream_seen : (st : Stream) → stream_of k c ≡ Some st → IsSeenAs st
   stream_seen st is =
@@ -41,7 +41,7 @@ module _ (c : HostContents) (log : Log) (port : Ports) (t : Table DeviceConnecti
         id = one.0;
         at = found.at;
         label = label;
-        own = subst (λ (y : Seen). IsLabelled y k (count_in c) log port) (sym found.is) (x.streams.labels one.0 one.1 k one.2 one.3);
+        own = subst (λ (y : Seen). IsLabelled y k (count_in c) log (heard_at c port)) (sym found.is) (x.streams.labels one.0 one.1 k one.2 one.3);
       })
 
   -- If it has one.

@@ -1,7 +1,7 @@
 -- Where the driver's packets go, carried along its calls.
 use Rattle.std.proofs.{Common.{◌≡◌, ◌≤◌, ◌<◌, ◌^◌, ℕ, Bool, true, false, List, [], ◌∷◌, Result, refl, ap, ◌∙◌, arith}, lemmas.Grind.common_steps}
 use Rattle.std.{proofs.lemmas.List.Elements.{All-head, All-tail}, specs.List.All}
-use Rattle.vs_header.specs.declared.{Header.Header, Kind.TheVariants.Stream}
+use Rattle.vs_header.specs.{Kind.kind_number, declared.{Header.Header, Kind.{Kind, TheVariants.Stream}}}
 use Rattle.vs_flow.specs.{Flow.same_flow, declared.flow.Flow.Flow}
 use Rattle.laws_history.specs.{declared.packet.Packet.Packet, History.{History, Side, gots, is_begun, puts}}
 use Rattle.vs_limits.specs.declared.TheConstants.{HOST_CID, LAST_PORT}
@@ -33,7 +33,7 @@ goes_to_host c h kept = grind (arith, common_steps)
 host_by : (first : ℕ) (f : Flow) (log : Log) → All ComesFromHost (packets_got log) → AreRouted first log
     → is_empty (history_of Driver f log) ≡ false → f.peer ≡ HOST_CID
 host_by first f [] from routed some = absurd cc
-host_by first f (PutPacket p ∷ log) from routed some = by (same_flow f (flow_put Driver p)) refl (host_by first f log from routed.1)
+host_by first f (PutPacket p ∷ log) from routed some = by (same_flow f (flow_put Driver p)) refl (host_by first f log from routed.2)
   where
     by : (b : Bool) → same_flow f (flow_put Driver p) ≡ b → (is_empty (history_of Driver f log) ≡ false → f.peer ≡ HOST_CID)
         → f.peer ≡ HOST_CID
@@ -51,17 +51,20 @@ host_by first f (_ ∷ log) from routed some = host_by first f log from routed s
 begun_some : (side : Side) (h : History) → is_begun side (puts h) (gots h) ≡ true → is_empty h ≡ false
 begun_some side h begun = grind (arith, common_steps)
 
+abbrev is_kind : Kind → Bool
+is_kind k = kind_number k == kind_number Stream
+
 -- Of each call.
 poll_routes : (first : ℕ) → Carries true first (Routed first)
 poll_routes first = record {
   owed = λ what e s log fits stands owes m was fair routed from.
       let p = owed_on Driver s.cid e.flow e.value.end what in
-      (not_dropped (cid_of first log) s.cid p.header refl m.flows.cid ((entry_fits s e fits stands).peer refl), routed from);
+      (not_dropped (cid_of first log) s.cid p.header refl m.flows.cid ((entry_fits s e fits stands).peer refl), (λ asks. ap is_kind (entry_fits s e fits stands).kind), routed from);
   reply = λ r rest s log fits is m fair routed from.
       let p = reply_on Driver s.cid r in
       let begun = ((((one_put Driver log p).0 fair).1).goes_on refl).begun refl in
       let host = host_by first r.flow log from (routed from) (begun_some (side_of Driver r.flow) (history_of Driver r.flow log) begun) in
-      (not_dropped (cid_of first log) s.cid p.header refl m.flows.cid host, routed from);
+      (not_dropped (cid_of first log) s.cid p.header refl m.flows.cid host, (λ asks. absurd cc), routed from);
   got = λ p s log fits ports whole m was fair routed from. routed (All-tail ComesFromHost p (packets_got log) from);
   event = λ id s log routed. routed;
   reset = λ cid s log less fits routed. routed;
@@ -73,7 +76,7 @@ connect_routes first host = record {
   opens = λ s log fits free m was fair routed from.
       let p = request_on Driver s.cid (next_flow HOST_CID host s) Stream in
       let host_is = (given_to HOST_CID host s.next_port s.clean (next_flow HOST_CID host s) (may_connect HOST_CID host s free).flow).peer_is in
-      (not_dropped (cid_of first log) s.cid p.header refl m.flows.cid host_is, routed from);
+      (not_dropped (cid_of first log) s.cid p.header refl m.flows.cid host_is, (λ asks. refl), routed from);
 }
 
 send_routes : (first id : ℕ) (bytes : List ℕ) → CarriesSend true first id bytes (Routed first) (λ answer. Routed first)

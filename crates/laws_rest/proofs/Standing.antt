@@ -57,7 +57,7 @@ IsKept cid p = is_dropped Device cid p.header ≡ false
 routed : (first : ℕ) (log : Log) → has_no_mark log ≡ true → AreRouted first log → All (IsKept first) (packets_put log)
 routed first [] marks are = All-nil (IsKept first)
 routed first (PutPacket p ∷ log) marks are =
-    All-cons (IsKept first) p (packets_put log) (subst (λ c. IsKept c p) (cid_first first log marks) are.0) (routed first log marks are.1)
+    All-cons (IsKept first) p (packets_put log) (subst (λ c. IsKept c p) (cid_first first log marks) are.0) (routed first log marks are.2)
 routed first (Mark cid ∷ log) marks are = absurd cc
 routed first (_ ∷ log) marks are = routed first log marks are
 

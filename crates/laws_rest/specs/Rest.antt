@@ -1,7 +1,9 @@
 -- Driver and device at rest, as plain data: each got all that the other put, and nothing is owed.
 use Rattle.std.specs.{Prelude.{◌≡◌, ℕ, ◌+◌, ◌-◌, ◌<◌, ◌≤◌, ◌^◌, Bool, true, false, [], ◌∷◌, None}, List.All, Option.ForSome}
 use Rattle.vs_wrap.specs.Wrap.{difference32}
-use Rattle.vs_conn.specs.{End.ConnectionEnd, End.owes_of, Shut.is_both, declared.end.State.TheVariants.Live}
+use Rattle.laws_history.specs.Packets.{is_request}
+use Rattle.vs_header.specs.declared.Kind.TheVariants.{Stream}
+use Rattle.vs_conn.specs.{End.ConnectionEnd, End.is_of, End.owes_of, Shut.is_both, declared.end.State.TheVariants.Live}
 use Rattle.vs_flow.specs.declared.flow.Flow.{Flow}
 use Rattle.vs_limits.specs.declared.TheConstants.{BUF_ALLOC, HOST_CID, UPDATE_AT}
 use Rattle.vs_page.specs.{Fair.IsFairLog, Log.Device, Log.Log, Log.Role, Log.other_role, Log.packets_got, Log.packets_put, Open.cid_of}
@@ -16,10 +18,11 @@ has_no_mark (Mark cid ∷ log) = false
 has_no_mark (_ ∷ log) = has_no_mark log
 
 -- The device drops none of the packets that the driver put, where it knows the guest by the same CID: each has the CID that the guest had at
--- that point, and goes to the host.
+-- that point, and goes to the host. And each REQUEST is of type stream.
 abbrev pub AreRouted : ℕ → Log → Type 0
 AreRouted first [] = Unit {0}
-AreRouted first (PutPacket p ∷ log) = (is_dropped Device (cid_of first log) p.header ≡ false) × AreRouted first log
+AreRouted first (PutPacket p ∷ log) =
+    (is_dropped Device (cid_of first log) p.header ≡ false) × (is_request p ≡ true → is_of Stream p.header ≡ true) × AreRouted first log
 AreRouted first (_ ∷ log) = AreRouted first log
 
 -- So are the packets that the driver put, as long as all that it got come from the host; and the same where an honest ring tells the log.

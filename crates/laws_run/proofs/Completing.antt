@@ -5,7 +5,8 @@ use Rattle.std.proofs.lemmas.{Bool.{Decides.nat_tests, eqb-true}, Grind.common_s
 use Rattle.std.{proofs.lemmas.Option.slice_get_read, specs.{List.{AllPairs}, Option.{ForSome, option_map, option_map_or, unwrap_or}, Prelude.not}}
 use Rattle.vs_flow.{specs.{Connection.Connection, Flow.{host_asks, same_flow}, Table.{IsTable, entry_under, value_under}, declared.flow.Flow.Flow}, proofs.Entries.found_at}
 use Rattle.vs_conn.specs.{End.{ConnectionEnd, may_send_of}, Shut.is_both, declared.{end.State.{State, TheVariants.{Ended, Live}}, shut.Shut.Shut}}
-use Rattle.vs_limits.specs.declared.TheConstants.{FIRST_CID}
+use Rattle.vs_limits.specs.declared.TheConstants.{DEVICE_CONNECTIONS, FIRST_CID}
+use Rattle.vs_uds.specs.Path.{path_of}
 use Rattle.vs_outside.specs.{Host.{HostContents, Stream, stream_at}, HostBytes.{host_read, host_wrote}}
 use Rattle.vs_page.{specs.{Fair.{current, payload_got}, Log.{Device, Driver}}, proofs.Flows.same_is}
 use Rattle.vs_ring_shared.specs.Sights.{DeviceSight, Sight, device_contents, device_log, driver_contents, driver_log}
@@ -28,13 +29,16 @@ use Rattle.laws_apps.specs.Traces.{IsClosing, IsDrained, IsStopped, IsTraced, Te
 use Rattle.vs_report.specs.declared.giving.Totals.{Totals}
 use Rattle.vs_run_report.specs.{Connections.opened_all, declared.connection.Opened.Opened, Endings.{ending_at, state_at, why_at}, Report.ended_at, declared.ending.Ending.Ending}
 use Rattle.laws_run.specs.{Complete.{IsAtOpen, IsCompleteEnding, IsCompleteExchange, IsCompleteRun, IsCompleteWait, LacksCredit, open_labels}, Bounds.{AreShutDown, HasBounds}}
-use Rattle.laws_run.specs.{Bounds.{HasEnd, IsBounded, IsShutDown, TakesOn, calls_of_others, done_at, early, is_cut, total}, Dry.{AreIdle, IsDry, IsFull, IsFullAt, OfOpen}, Labels.{AreClients, HasStream}}
+use Rattle.laws_run.specs.{Bounds.{HasEnd, IsBounded, IsShutDown, TakesOn, calls_of_others, done_at, early, is_cut, total}, Dry.{AreIdle, IsDry, IsFull, IsFullAt, OfOpen}, Labels.{AreClients, AreDialed, HasStream}}
 use Rattle.laws_run.{specs.Dry.{reads_of, stream_open, writes_of}, proofs.{Bounding.{AreFree, ArePlain, Way, all_moved, receiving, sending, sending_all, tally}, Moved.all_plain}}
-use Rattle.laws_run.proofs.{Moved.{app_early, app_free, app_less, app_plain, drain_early, drained, free_moves, free_sends, stopped, received_enough, sent_enough}, Labels.clients_stream, Opening.all_opened, Trying.all_lined}
+use Rattle.laws_run.proofs.{Moved.{app_early, app_free, app_less, app_plain, drain_early, drained, free_moves, free_sends, stopped, received_enough, sent_enough}, Labels.{all_streams, clients_stream, guests_stream}, Opening.all_opened, Trying.all_lined}
 use Rattle.laws_run.proofs.{Trying.{all_tried, tried}, Alike.{AreApart, HasApart, Leaves, leaves_core}, Drying.under_at, Endings.{Ends, all_ends, ends_on}, Wrote.same_current}
 use Rattle.laws_run.proofs.{Wrote.{same_payload, streamed, to_device, wrote_there}, Unread.{live_connection, no_free, some_unread, to_read, unread_within}}
 use Rattle.laws_run.proofs.{Halting.{Halts, IsRoomy, Stops, first_call}, Open.{among_entry, as_many_open, entry_of_open, one_is, open_stream, stream_there}, Still.poll_still}
 use Rattle.laws_run.proofs.Waiting.{credit_call, empty_call, not_open, recv_id, send_id}
+use Rattle.vs_device_parts.specs.State.{counters_of}
+use Rattle.vs_outside.specs.Host.{is_listened}
+use Rattle.vs_page.specs.Fair.{number_of}
 use Rattle.vs_apps_parts.specs.declared.journal.WaitsFor.TheVariants as waits
 use Rattle.laws_driver.specs.Carried.Calls as call
 use Rattle.vs_run_report.specs.declared.ending.Ending.TheVariants as ending
@@ -68,6 +72,9 @@ slots_apart (e ∷ es) rising = (
   slots_apart es (λ i j d before within. rising (suc i) (suc j) d (omega (arith, before)) (omega (arith, within))),
 )
 
+unlost : (faults dropped : ℕ) → faults ≡ 0 → dropped ≡ 0 → (not true || (not (faults == 0) || not (dropped == 0))) ≡ false
+unlost faults dropped a b = grind (arith, nat_tests, common_steps, a, b)
+
 module _ (script : RunScript) (driver : DriverState) (end : Sight) (apps : List AppState) (entries : List Entry) (bytes : List ℕ) (p : ProxyState)
     (e : DeviceSight) (h : HostContents) (faults : ℕ)
     (run : IsRunOf FIRST_CID script (run_with driver (driver_contents end) apps entries bytes)) (settled : IsSettled driver end p e)
@@ -79,7 +86,7 @@ module _ (script : RunScript) (driver : DriverState) (end : Sight) (apps : List 
   abbrev journal : Journal
   journal = calls_of script bytes entries
 
-  pub on : IsStreamed h e.sight.log (ports_of p.next_port p.device) p.device.table p.handshakes
+  pub on : IsStreamed h e.sight.log (ports_of true p.next_port p.device) p.device.table p.handshakes
   on = streamed driver end p e settled h faults streams
 
   pub apart : HasApart driver
@@ -135,12 +142,12 @@ module _ (script : RunScript) (driver : DriverState) (end : Sight) (apps : List 
   -- The stream of an entry.
   of_its : (P : Stream → Type 0) (y : DeviceEntry) → Contains p.device.table.entries y → ForSome (stream_at y.value.stream h) P
       → OfOpen (connection_of y e.sight.log) h P
-  of_its = one_is h e.sight.log (ports_of p.next_port p.device) p.device.table p.handshakes on device_fits still_open
+  of_its = one_is h e.sight.log (ports_of true p.next_port p.device) p.device.table p.handshakes on device_fits still_open
 
   device_open : length (device_shown p.device) ≡ length (open_labels h)
   device_open =
       length-map p.device.table.entries (λ x. (x.flow, x.value.end.state))
-      ∙ as_many_open h e.sight.log (ports_of p.next_port p.device) p.device.table p.handshakes on device_fits still_open
+      ∙ as_many_open h e.sight.log (ports_of true p.next_port p.device) p.device.table p.handshakes on device_fits still_open
 
   guest_open : length (guest_shown driver) ≡ length (open_labels h)
   guest_open =
@@ -251,7 +258,7 @@ module _ (script : RunScript) (driver : DriverState) (end : Sight) (apps : List 
     id_open id x within named =
         let at = at_device x within in
         ap (λ (c : Connection). stream_open c h) (is_its id x within named)
-        ∙ stream_there h e.sight.log (ports_of p.next_port p.device) p.device.table p.handshakes on device_fits still_open at.entry at.within
+        ∙ stream_there h e.sight.log (ports_of true p.next_port p.device) p.device.table p.handshakes on device_fits still_open at.entry at.within
 
     -- One on which nothing is unread.
     all_dry : (id : ℕ) (x : DriverEntry) → Contains driver.table.entries x → x.value.id ≡ id → x.value.unread ≡ [] → is_at_end x.value.end ≡ false
@@ -290,7 +297,7 @@ module _ (script : RunScript) (driver : DriverState) (end : Sight) (apps : List 
         let its : Connection = current Device y.flow e.sight.log in
         let least_got : over_half ≤ length (payload_got Device its e.sight.log) = omega (arith, least, got) in
         let many : over_half ≤ length y.value.pending = omega (arith, least, exact) in
-        let still = to_read h e.sight.log (ports_of p.next_port p.device) p.device.table p.handshakes on y at.within alive goes_on over_half many least_got in
+        let still = to_read h e.sight.log (ports_of true p.next_port p.device) p.device.table p.handshakes on y at.within alive goes_on over_half many least_got in
         let some = subst (λ (i : ℕ). 1 ≤ (opened i).number) named (some_known x within) in
         let same : opened id ≡ its =
         ap opened (sym named) ∙ present_there x within ∙ ap (λ (f : Flow). current Device f e.sight.log) at.flow in
@@ -322,7 +329,7 @@ module _ (script : RunScript) (driver : DriverState) (end : Sight) (apps : List 
     -- One with an open stream is in the driver's table.
     pub entry_for : (c : Connection) → 1 ≤ c.number → stream_open c h ≡ true → (x : DriverEntry) × Contains driver.table.entries x × (opened x.value.id ≡ c)
     entry_for c some opens =
-        let there = entry_of_open h e.sight.log (ports_of p.next_port p.device) p.device.table p.handshakes on device_fits c some opens in
+        let there = entry_of_open h e.sight.log (ports_of true p.next_port p.device) p.device.table p.handshakes on device_fits c some opens in
         let y = there.0 in
         let among = among_entry device_end p.device.table.entries y there.1 in
         let found = entry_among driver_end y.flow driver.table.entries (settled.same_flows y.flow (settled.with_host Device y.flow among) ∙ among) in (
@@ -471,14 +478,26 @@ module _ (script : RunScript) (driver : DriverState) (end : Sight) (apps : List 
                 let most = app_less script bytes k w.tell id entries in
                 let same = ap (λ (js : Journal). tally w.tell id js) played.2 in omega (arith, all, most, same)
 
+    passed_there : (id : ℕ) → (opened id).number ≤ number_of Device (opened id).flow e.sight.log
+    passed_there id = subst (λ (n : ℕ). (opened id).number ≤ n) (ap (λ (c : Connection). c.number) (same_current driver end p e settled (opened id).flow))
+        (account.right.received.passed id)
+
     -- Clients have their streams.
     clients_run : AreClients opened (opened_all (length script) entries) h
     clients_run i d less = of _ (all_opened opened (length script) entries account.flows i d less)
       where
         of : (o : Opened) → (1 ≤ (opened o.id).number) × ((opened o.id).flow ≡ o.flow) → host_asks (opened o.id).flow ≡ true → HasStream (opened o.id) h
-        of o has asks = clients_stream h e.sight.log (ports_of p.next_port p.device) p.device.table p.handshakes on (opened o.id) has.0 asks
-            (subst (λ (n : ℕ). (opened o.id).number ≤ n) (ap (λ (c : Connection). c.number) (same_current driver end p e settled (opened o.id).flow))
-            (account.right.received.passed o.id))
+        of o has asks = clients_stream h e.sight.log (ports_of true p.next_port p.device) p.device.table p.handshakes on (opened o.id) has.0 asks
+            (passed_there o.id)
+
+    dialed_run : p.device.faults ≡ 0 → p.device.dropped ≡ 0 → AreDialed p.device.base opened (opened_all (length script) entries) h
+    dialed_run faultless undropped i d less = of _ (all_opened opened (length script) entries account.flows i d less)
+      where
+        of : (o : Opened) → (1 ≤ (opened o.id).number) × ((opened o.id).flow ≡ o.flow) → host_asks (opened o.id).flow ≡ false
+            → is_listened (path_of p.device.base (opened o.id).flow.host) h ≡ true → HasStream (opened o.id) h ⊎ (DEVICE_CONNECTIONS ≤ length h.labelled)
+        of o has asks heard = guests_stream h e.sight.log (ports_of true p.next_port p.device) p.device.table p.handshakes on (opened o.id) has.0 asks
+            (passed_there o.id) heard (unlost p.device.faults p.device.dropped faultless undropped)
+            (all_streams FIRST_CID end.log e.sight.log settled.at_rest.routed (to_device driver end p e settled))
 
     wait_complete : (k : ℕ) (why : WaitsFor) → Halts old.driver (acts_of k script) (state_at k apps).progress why driver
         → IsCompleteWait opened journal h (state_at k apps).progress.conn why
@@ -566,9 +585,9 @@ module _ (script : RunScript) (driver : DriverState) (end : Sight) (apps : List 
     ending_complete k (inr rests) =
         subst (λ (x : Ending). IsCompleteEnding opened journal h (state_at k apps).progress.conn x) (sym rests.ended) (wait_complete k rests.why rests.halts)
 
-    pub complete_run : (t : Totals) → t.guest_open ≡ length (guest_shown driver) → t.device_open ≡ length (device_shown p.device)
-        → IsCompleteRun script apps entries bytes t opened h
-    complete_run t guest device = record {
+    pub complete_run : (t : Totals) → t.guest_open ≡ length (guest_shown driver) → t.device_open ≡ length (device_shown p.device) → t.counters ≡ counters_of p.device
+        → IsCompleteRun script apps entries bytes t p.device.base opened h
+    complete_run t guest device counters = record {
       guest_open = guest ∙ guest_open;
       device_open = device ∙ device_open;
       waits = λ k less. ending_complete k (ends k less);
@@ -577,4 +596,5 @@ module _ (script : RunScript) (driver : DriverState) (end : Sight) (apps : List 
       given = (run.kept.given refl (driver_log end) refl).all;
       owned = (run.kept.places refl (driver_log end) refl).1;
       clients = clients_run;
+      dialed = λ faultless undropped. dialed_run (ap (λ c. c.faults) (sym counters) ∙ faultless) (ap (λ c. c.dropped) (sym counters) ∙ undropped);
     }

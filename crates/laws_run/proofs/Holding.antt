@@ -14,7 +14,7 @@ use Rattle.vs_script.specs.App.{Act, Accept}
 use Rattle.vs_driver_parts.specs.{Connections.{is_full, table_shown as guest_shown}, Listening.{is_answered, listener_on, next_accepted}, State.{DriverEntry, DriverState}}
 use Rattle.vs_driver_parts.specs.{State.{GoneConnection, Listener, entry_known_as, gone_known_as, is_known_as}, declared.answers.{ConnectionState.ConnectionState, Polled.Polled}}
 use Rattle.vs_driver_parts.specs.declared.answers.Received.{Received}
-use Rattle.vs_device_parts.specs.{Playing.situation, Turns.table_shown as device_shown}
+use Rattle.vs_device_parts.specs.{Playing.situation, State.counters_of, Turns.table_shown as device_shown}
 use Rattle.vs_proxy_parts.specs.State.{ProxyState}
 use Rattle.laws_tables.{specs.Drains.is_same, proofs.Logs.same_connection}
 use Rattle.laws_driver.specs.{Honest.slots_of, Carried.{Calls.{GuestCall, Journal, account_of}, Received.ReceivedOn}}
@@ -339,7 +339,7 @@ module _ (script : RunScript) (driver : DriverState) (end : Sight) (apps : List 
     stream_counts : (c : Connection) → 1 ≤ c.number → host_asks c.flow ≡ true → has_line opened lines c ≡ false → (s : Stream) → stream_of c h ≡ Some s
         → Contains counted c
     stream_counts c some assigned none s is =
-        let it = stream_seen h e.sight.log (ports_of p.next_port p.device) p.device.table p.handshakes
+        let it = stream_seen h e.sight.log (ports_of true p.next_port p.device) p.device.table p.handshakes
         (on script driver end apps entries bytes p e h faults run settled steady old stood all
         room same_apps same_entries polled told past heard polls still same_driver streams idle)
         c some s is in
@@ -467,8 +467,8 @@ module _ (script : RunScript) (driver : DriverState) (end : Sight) (apps : List 
   pub complete_report : (opened : ℕ → Connection)
       × ((t : Totals) (before after : ℕ) → t.broken ≡ driver.broken → t.counters.overrun ≡ p.device.overrun → t.counters.dropped ≡ 0
       → (1 ≤ t.counters.faults → one_more before ≤ after) → IsRightReport script apps entries bytes t opened end.log h before after)
-      × ((t : Totals) → t.guest_open ≡ length (guest_shown driver) → t.device_open ≡ length (device_shown p.device)
-      → IsCompleteRun script apps entries bytes t opened h)
+      × ((t : Totals) → t.guest_open ≡ length (guest_shown driver) → t.device_open ≡ length (device_shown p.device) → t.counters ≡ counters_of p.device
+      → IsCompleteRun script apps entries bytes t p.device.base opened h)
       × ArePlaceWaits script apps entries bytes driver opened h
   complete_report =
       let of = accounted script driver end apps entries bytes p e h faults run settled steady old stood all same_apps same_entries streams in (

@@ -66,10 +66,10 @@ module _ (d : DriverState) (driver : Sight) (p : ProxyState) (device : DeviceSig
       (settled.at_rest.no_reset Device) settled.at_rest.routed to_device)
 
   module _ (h : HostContents) (faults : ℕ) (streams : IsProxyStreamed FIRST_CID p (situation (device_contents device) (Some h) faults)) where
-    pub streamed : IsStreamed h device.sight.log (ports_of p.next_port p.device) p.device.table p.handshakes
+    pub streamed : IsStreamed h device.sight.log (ports_of true p.next_port p.device) p.device.table p.handshakes
     streamed = streams refl (device_log device) refl heard h refl
 
     pub wrote_there : (c : Connection) → 1 ≤ c.number → payload_got Driver c driver.log ≡ host_wrote c h
     wrote_there c some =
         sym (same_payload Driver driver.log device.sight.log to_driver c)
-        ∙ wrote_is_put h device.sight.log (ports_of p.next_port p.device) p.device.table p.handshakes streamed c some
+        ∙ wrote_is_put h device.sight.log (ports_of true p.next_port p.device) p.device.table p.handshakes streamed c some

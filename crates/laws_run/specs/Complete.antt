@@ -9,7 +9,7 @@ use Rattle.vs_apps_parts.specs.declared.progress.Progress.{Progress}
 use Rattle.vs_script.specs.{App.{Act, Exchange}, Data.{Content, size_of}}
 use Rattle.laws_apps.specs.{Given.AllGiven, Placed.AreOwned}
 use Rattle.laws_rest.specs.Rest.{over_half}
-use Rattle.laws_run.specs.{Bounds.IsBounded, Dry.{IsDry, IsFull, OfOpen, stream_open}, Labels.AreClients}
+use Rattle.laws_run.specs.{Bounds.IsBounded, Dry.{IsDry, IsFull, OfOpen, stream_open}, Labels.{AreClients, AreDialed}}
 use Rattle.vs_report.specs.declared.giving.Totals.{Totals}
 use Rattle.vs_run_report.specs.{Connections.opened_all, Endings.state_at, Report.ended_at, declared.ending.Ending.Ending}
 use Rattle.vs_apps_parts.specs.declared.journal.WaitsFor.TheVariants as waits
@@ -56,9 +56,10 @@ IsCompleteExchange opened journal h acts p (ending.Waited waits.Empty at) =
 IsCompleteExchange opened journal h acts p e = Unit {0}
 
 -- Both tables have as many entries as there are streams with a label that the proxy hasn't closed; so each wait; what was done is so; what each connect and
--- accept was given; and each connection of a client that has a line has its stream.
-pub record IsCompleteRun (script : RunScript) (apps : List AppState) (entries : List Entry) (bytes : List ℕ) (t : Totals) (opened : ℕ → Connection)
-    (h : HostContents) : Type 0 where
+-- accept was given; and each connection of a client that has a line has its stream, as has each of the guest's, under the proxy's base path, where no fault was
+-- counted and no packet was dropped.
+pub record IsCompleteRun (script : RunScript) (apps : List AppState) (entries : List Entry) (bytes : List ℕ) (t : Totals) (base : List ℕ)
+    (opened : ℕ → Connection) (h : HostContents) : Type 0 where
   pub guest_open : t.guest_open ≡ length (open_labels h)
   pub device_open : t.device_open ≡ length (open_labels h)
   pub waits : (k : ℕ) → k < length script
@@ -69,3 +70,4 @@ pub record IsCompleteRun (script : RunScript) (apps : List AppState) (entries : 
   pub given : AllGiven (calls_of script bytes entries)
   pub owned : AreOwned (length script) entries
   pub clients : AreClients opened (opened_all (length script) entries) h
+  pub dialed : t.counters.faults ≡ 0 → t.counters.dropped ≡ 0 → AreDialed base opened (opened_all (length script) entries) h

@@ -6,7 +6,7 @@ ghost use Rattle.vs_limits.specs.declared.TheConstants.{FIRST_CID};
 ghost use Rattle.vs_outside.specs.{Faults.one_more, Host.HostContents};
 ghost use Rattle.vs_ring_shared.specs.Sights.{DeviceSight, Sight, device_contents, driver_contents};
 ghost use Rattle.vs_driver_parts.specs.{Connections.table_shown as guest_shown, State.DriverState, declared.answers.Polled.Polled};
-ghost use Rattle.vs_device_parts.specs.{Playing.situation, Turns.table_shown as device_shown};
+ghost use Rattle.vs_device_parts.specs.{Playing.situation, State.counters_of, Turns.table_shown as device_shown};
 ghost use Rattle.vs_proxy_parts.specs.State.{ProxyState};
 ghost use Rattle.laws_proxy.specs.Honest.{IsProxyStreamed};
 ghost use Rattle.laws_settled.specs.Settled.{IsSettled, IsSteady};
@@ -40,5 +40,5 @@ pub fn law_of_complete_runs()
         → (opened : ℕ → Connection) × ((t : Totals) (before after : ℕ) → t.broken ≡ driver.broken → t.counters.overrun ≡ p.device.overrun
         → t.counters.dropped ≡ 0 → (1 ≤ t.counters.faults → one_more before ≤ after) → IsRightReport script apps entries bytes t opened end.log h before after)
         × ((t : Totals) → t.guest_open ≡ length (guest_shown driver) → t.device_open ≡ length (device_shown p.device)
-        → IsCompleteRun script apps entries bytes t opened h) × ArePlaceWaits script apps entries bytes driver opened h }
+        → t.counters ≡ counters_of p.device → IsCompleteRun script apps entries bytes t p.device.base opened h) × ArePlaceWaits script apps entries bytes driver opened h }
 {}

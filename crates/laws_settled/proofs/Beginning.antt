@@ -3,7 +3,7 @@ use Rattle.std.proofs.lemmas.Grind.{common_steps}
 use Rattle.std.proofs.Common.{◌≡◌, ◌==◌, ◌-◌, ℕ, zero, suc, Bool, true, false, cond, List, [], ◌∷◌, Option, Some, None, refl, sym, ap, subst, ◌∙◌, arith, slice_get}
 use Rattle.std.{proofs.lemmas.{List.Elements.{All-cons, All-head, All-nil, All-tail}, Option.same_Some}, specs.{List.All, Option.option_map}}
 use Rattle.vs_flow.specs.{Connection.Connection, Table.Table, declared.flow.Flow.Flow}
-use Rattle.vs_limits.specs.declared.TheConstants.{ASSIGNED_FIRST, FIRST_CID}
+use Rattle.vs_limits.specs.declared.TheConstants.{ASSIGNED_FIRST, DEVICE_CONNECTIONS, FIRST_CID}
 use Rattle.vs_outside.specs.Host.{HostContents, Stream, is_waiting, stream_at}
 use Rattle.vs_page.specs.{Log.{Device, Driver, Log, events_put, flow_got, packets_got}, Open.{cid_of, is_dropped}, declared.log.LogEntry.TheVariants.{GotPacket, Mark}}
 use Rattle.vs_page.proofs.Flows.{same_self}
@@ -41,9 +41,10 @@ module _ (h : HostContents) (unlabelled : IsUnlabelled h) where
   plain : (id : ℕ) (s : Seen) → look h id ≡ Some s → SeenPlain s
   plain id s is = seen_plain h id (stream_at id h) s is (λ x there. there_plain (id == 0) id x there)
 
-  begins_streamed : (port : Ports) (t : Table DeviceConnection) → t.entries ≡ [] → IsStreamed h [] port t []
-  begins_streamed port t empty =
-      no_labels h port t empty unlabelled.0
+  begins_streamed : (port : Ports) (t : Table DeviceConnection) → t.entries ≡ [] → (port.serving.given ≡ 0) × (port.serving.room ≡ DEVICE_CONNECTIONS)
+      → IsStreamed h [] port t []
+  begins_streamed port t empty slots =
+      no_labels h port t empty slots unlabelled.0
       (λ id s k is label. let no : ◌≡◌ {A = Option Connection} None (Some k) = sym (plain id s is).0 ∙ label in absurd cc)
       (λ id s is waits. (plain id s is).1 waits)
 
@@ -54,9 +55,9 @@ new_begun base a l told silent = record {
   drops = λ on m there all. refl;
   streamed = λ unlabelled on m is few h there.
       let same = same_Some l m (sym told ∙ is) in
-      subst (λ (log : Log). IsStreamed h log (ports_of ASSIGNED_FIRST (new_proxy FIRST_CID base).device) (new_proxy FIRST_CID base).device.table [])
+      subst (λ (log : Log). IsStreamed h log (ports_of true ASSIGNED_FIRST (new_proxy FIRST_CID base).device) (new_proxy FIRST_CID base).device.table [])
       (sym (ap (λ (x : EndLog). x.entries) (sym same) ∙ silent))
-      (begins_streamed h (unlabelled h there) (ports_of ASSIGNED_FIRST (new_proxy FIRST_CID base).device) (new_proxy FIRST_CID base).device.table refl);
+      (begins_streamed h (unlabelled h there) (ports_of true ASSIGNED_FIRST (new_proxy FIRST_CID base).device) (new_proxy FIRST_CID base).device.table refl (refl, refl));
   failed = record { grown = omega arith; more = λ some. absurd (omega (arith, some)) };
 }
 

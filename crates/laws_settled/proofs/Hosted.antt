@@ -1,5 +1,5 @@
 -- A turn, with the flows and packets of the device.
-use Rattle.std.proofs.Common.{◌≡◌, ℕ, List, [], sym, subst}
+use Rattle.std.proofs.Common.{true, ◌≡◌, ℕ, List, [], sym, subst}
 use Rattle.vs_ring_port.specs.Chains.{Held}
 use Rattle.vs_device_parts.specs.{Calls.Situation, Playing.Runs}
 use Rattle.laws_device.proofs.{Chains.{Among, alone_so}, Keeping.keeps_end, Seats.Carried}
@@ -10,6 +10,7 @@ use Rattle.laws_settled.{specs.Hosts.{IsHosts, IsHostsWith}, proofs.Hosting.{Wit
 abbrev hosts : Carried
 hosts = record {
   ok = ⊥;
+  stay = true;
   others = λ held. held ≡ [];
   asks = WithHost;
   of_host = λ f host. host;

@@ -102,15 +102,14 @@ module _ {fresh : Type 0} (w : World) (well : IsWell fresh w) where
           connection = connection_in w.host id f;
           at = seen_at w.host id s (connection_in w.host id f) at here l.some;
           flow = refl;
-          most = by (host_asks f) ((well.streams new).streams.counted f) l.most;
+          most = by (host_asks f) _ ((well.streams new).streams.counted f) l.most;
         }
       where
-        by : (b : Bool) → CountMatches b (count_in w.host f) (number_of Device f device) (is_among f w.proxy.device.clean)
-            (has is_clean_rst (puts (history_of Device f device)))
+        by : (b marked : Bool) → CountMatches b (count_in w.host f) (number_of Device f device) (is_among f w.proxy.device.clean) marked
             → (connection_in w.host id f).number ≤ count_in w.host f
             → (connection_in w.host id f).number ≤ number_of Device f device + cond b 1 0
-        by true counted most = let one = counted.0 in omega (arith, one, most)
-        by false counted most = let less = counted.0 in omega (arith, less, most)
+        by true marked counted most = let one = counted.0 in omega (arith, one, most)
+        by false marked counted most = let less = counted.0 in omega (arith, less, most)
 
     pub pending_of : (e : DeviceEntry) → Contains w.proxy.device.table.entries e
         → (s : Stream) × (stream_at e.value.stream w.host ≡ Some s) × (connection_at e.value.stream w.host ≡ Some (connection_of e device))

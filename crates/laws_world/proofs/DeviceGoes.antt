@@ -19,6 +19,7 @@ module _ (fresh : Type 0) (b : Both) (sound : IsSound first_cid b) (cids : AreVo
   abbrev pub carried : Carried
   carried = record {
     ok = fresh;
+    stay = false;
     others = λ held. Unit {0};
     asks = λ f. Unit {0};
     of_host = λ f host. tt;

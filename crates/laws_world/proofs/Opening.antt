@@ -159,7 +159,7 @@ module _ (b : Beginning) (host : HostContents) where
     overrun = refl;
     counted = record { cid_is = refl; dropped_is = refl; unfailed = refl };
     cids = subst (AreVoiced first_cid) opening_is (voices_start first_cid b.first ASSIGNED_FIRST);
-    streams = λ fresh. no_streams host (record { next = ASSIGNED_FIRST; clean = [] }) (opening b host).proxy.device.table refl fresh.streams fresh.labelled;
+    streams = λ fresh. no_streams host (ports_of false ASSIGNED_FIRST (opening b host).proxy.device) (opening b host).proxy.device.table refl (refl, refl) fresh.streams fresh.labelled;
     opened = (no_account 1).opened;
     right = subst (λ (log : Log). IsRightJournal 1 (no_account 1).opened [] log (slots_of (opening b host).driver)) (sym log_empty)
         (subst (λ (s : DriverState). IsRightJournal 1 (no_account 1).opened [] [] (slots_of s)) (sym new.state) (none_righted b.pages b.first 1));

@@ -47,7 +47,7 @@ module _ (script : RunScript) (start : Start) (g : GuestsState) (s : SideState) 
       (ap (λ (x : GuestsState). x.driver) last.ends) streams still in (
         told.0,
         told.1 (totals_of g s.proxy) start.faults s.faults refl refl (dropped_none g.driver g.end s.proxy s.ring rest begun.drops) begun.failed.more,
-        told.2 (totals_of g s.proxy) refl refl,
+        told.2 (totals_of g s.proxy) refl refl refl,
         told.3,
       )
 

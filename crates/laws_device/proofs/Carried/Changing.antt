@@ -1,7 +1,7 @@
 -- What the host's streams took and gave, through the small changes of the device.
 use Rattle.vs_flow.specs.{CleanPairs.{kept, kept_if}, Table.{IsTable, Table, entry_of, with_value, without}, Flow.{host_asks, same_flow}, declared.flow.Flow.Flow, Connection.Connection}
 use Rattle.vs_flow.proofs.Entries.{same_flow_true}
-use Rattle.std.proofs.Common.{◌≡◌, ◌≢◌, ℕ, ◌+◌, ◌-◌, ◌≤◌, ◌==◌, ◌&&◌, nat_le, Bool, true, false, cond, List, [], ◌∷◌, ◌++◌, length, take, drop, Contains, Option, Some, None, refl}
+use Rattle.std.proofs.Common.{◌≡◌, ◌≢◌, ℕ, ◌+◌, ◌-◌, ◌≤◌, ◌==◌, ◌&&◌, ◌||◌, nat_le, Bool, true, false, cond, List, [], ◌∷◌, ◌++◌, length, take, drop, Contains, Option, Some, None, refl}
 use Rattle.std.proofs.{Common.{sym, ap, subst, ◌∙◌, arith, slice_get, get_or, ◌⊎◌, inl, inr}, lemmas.{Bool.Decides.nat_tests, Grind.common_steps, List.append-nil}}
 use Rattle.std.{proofs.Math.Seq.{drop-nil, take-nil}, specs.{List.{All, filter}, Option.{option_map, option_map_or}}}
 use Rattle.vs_conn.{specs.{End.{ConnectionEnd, end_after, is_of, is_reset, verdict_of, with_shut, with_payload_sent}, declared.end.Verdict.Verdict}, proofs.Frames.got_asked}
@@ -10,9 +10,10 @@ use Rattle.laws_device.proofs.Carried.Gives.{drop_both, first_of, forwards_asked
 use Rattle.laws_device.proofs.Carried.Gives.{delivered_other, delivers_gives, gives_delivered, goes_host, hears_gives, kept_empty, response_empty, shut_gives, shuts_asked}
 use Rattle.laws_device.proofs.Carried.{Gives.{unanswered_got, forwards_old, shuts_old, stays_old}, HostCalls.{read_host, write_host, closed_left, same_ends, same_host}}
 use Rattle.laws_device.proofs.Carried.{Streamed.{join_of, kept_streamed, left_streamed, StaysStill, passed_streamed, same_connection_of, same_streamed}, Opens.none_apart}
-use Rattle.laws_device.proofs.Carried.{Hosts.{counts_kept, counts_still, look_kept, unseen}, Counted.{comes_on, counted_asks, counted_got, counted_put, kept_less}}
+use Rattle.laws_device.proofs.Carried.{Hosts.{counts_kept, counts_still, look_kept, unseen}, Counted.{Lacks, comes_on, counted_asks, counted_got, counted_put, fewer_served, kept_less, lost_serves, none_lacks}}
 use Rattle.laws_device.{proofs.Carried.Counted.{number_elsewhere, number_put_elsewhere, put_still, request_put}, specs.Carried.Streamed.{client_waits, AreCounted, CountMatches}}
-use Rattle.laws_device.specs.Carried.Streamed.{IsJoined, IsStreamed, Ports, connection_of, count_in, gives, line_for, look, seen, Seen}
+use Rattle.vs_limits.specs.declared.TheConstants.{DEVICE_CONNECTIONS}
+use Rattle.laws_device.specs.Carried.Streamed.{heard_at, serves, IsJoined, IsStreamed, Ports, connection_of, count_in, gives, line_for, look, seen, Seen}
 use Rattle.laws_history.specs.{Packets.{has, is_clean_rst, is_request, is_response, is_rw}, History.{Answerer, Asker, Got, History, IsFair, Side, gots, puts, MayPut, peer}}
 use Rattle.laws_history.specs.{declared.packet.Packet.Packet, Again.AllowsNow}
 use Rattle.laws_tables.{specs.{Steps.payload_on, Drains.{Drains, only_on}, Ends.{is_among, is_new}}, proofs.{Entries.kept_among, Fair.{fair_now, own_got_fair}}}
@@ -75,11 +76,15 @@ no_request p is = grind (arith, nat_tests, common_steps, is)
 pub failed_host : (c : HostContents) (log : Log) (port : Ports) (t : Table DeviceConnection) (hands : List Handshake) → IsStreamed c log port t hands
     → IsStreamed (after_failed c) log port t hands
 failed_host c log port t hands x = same_host c (after_failed c) log port t hands
-    (λ j. look_kept c (after_failed c) list_is same_labels j (stream_at-after_failed j c)) list_is (counts_kept c (after_failed c) list_is same_labels) x
+    (λ j. look_kept c (after_failed c) list_is same_labels j (stream_at-after_failed j c)) list_is (listens_by (fails_now c)) (counts_kept c (after_failed c) list_is same_labels) x
   where
     labelled_by : (b : Bool) → (cond b (called c) (record (called c) { starved = true })).labelled ≡ c.labelled
     labelled_by true = refl
     labelled_by false = refl
+
+    listens_by : (b : Bool) → (cond b (called c) (record (called c) { starved = true })).listening ≡ c.listening
+    listens_by true = refl
+    listens_by false = refl
 
     list_is : (after_failed c).labelled ≡ c.labelled
     list_is = labelled_by (fails_now c)
@@ -102,7 +107,7 @@ MayFollow t p = (is_clean_rst p ≡ false) ⊎ ((e : DeviceEntry) × Contains t.
 
 pub put_empty : (c : HostContents) (log : Log) (port : Ports) (t : Table DeviceConnection) (hands : List Handshake) (p : Packet) → p.payload ≡ []
     → is_request p ≡ false → MayFollow t p → IsStreamed c log port t hands → IsStreamed c (PutPacket p ∷ log) port t hands
-put_empty c log port t hands p none plain may x = same_streamed (look c) (look c) c.labelled (count_in c) log (PutPacket p ∷ log) port (λ id. refl)
+put_empty c log port t hands p none plain may x = same_streamed (look c) (look c) c.labelled (count_in c) log (PutPacket p ∷ log) (heard_at c port) (λ id. refl)
     (put_still_by may) t hands x
   where
     -- Each REQUEST of the flow has its stream, where the flow has a connection.
@@ -113,14 +118,15 @@ put_empty c log port t hands p none plain may x = same_streamed (look c) (look c
     counted_by : (b : Bool) (f : Flow) (new : Bool) → host_asks f ≡ b → cond new (number_of Device f log + 1) (number_of Device f log) ≡ count_in c f
         → (host_asks f ≡ false → count_in c f ≡ number_of Device f log)
     counted_by b f new is newest outside =
-        let counted = subst (λ (b : Bool). CountMatches b (count_in c f) (number_of Device f log) (is_among f port.clean) (has is_clean_rst (puts (history_of Device f log)))) outside
+        let counted = subst (λ (b : Bool). CountMatches b (count_in c f) (number_of Device f log) (is_among f port.clean)
+        (has is_clean_rst (puts (history_of Device f log)) || serves (heard_at c port).serving log f)) outside
         (x.streams.counted f) in
         all_by new (count_in c f) (number_of Device f log) newest counted.0
 
     put_still_by : MayFollow t p → StaysStill (count_in c) log (PutPacket p ∷ log)
     put_still_by (inl unmarked) = put_still p log (count_in c) none plain (λ guest. inl unmarked)
     put_still_by (inr (e, there, flow)) =
-        let j = join_of (look c) c.labelled (count_in c) log port t hands x e there in
+        let j = join_of (look c) c.labelled (count_in c) log (heard_at c port) t hands x e there in
         put_still p log (count_in c) none plain (λ guest. inr (subst (λ (f : Flow). host_asks f ≡ false → count_in c f ≡ number_of Device f log) (sym flow)
         (counted_by (host_asks e.flow) e.flow (is_new e.value.end) refl j.newest) guest))
 
@@ -191,7 +197,7 @@ module _ (c : HostContents) (log : Log) (port : Ports) (t : Table DeviceConnecti
       → IsStreamed c (PutPacket p ∷ log) port (with_value t e.slot k) hands
   asks_streams e is k stream client closed was now ok pending less asks p request none flow by_client unkept =
       let its : Connection = connection_of e log in
-      let j = join_of (look c) c.labelled (count_in c) log port t hands x e is in
+      let j = join_of (look c) c.labelled (count_in c) log (heard_at c port) t hands x e is in
       let own : host_asks e.flow ≡ true = sym j.client ∙ by_client in
       let after : connection_of (record e { value = k }) (PutPacket p ∷ log) ≡ its =
       ap (λ (b : Bool). let n = number_of Device e.flow (PutPacket p ∷ log) in
@@ -203,7 +209,7 @@ module _ (c : HostContents) (log : Log) (port : Ports) (t : Table DeviceConnecti
       goes_host c log (PutPacket p ∷ log) port t hands x sound e is k stream client closed [] (put_nothing Device p log none)
       (λ d. got_over_put Device p log d ∙ sym (none_on_any its d (payload_got Device d log))) after
       (λ f other. number_put_elsewhere p log f (λ same. other (same ∙ flow)))
-      (counted_asks p log (count_in c) port.clean request (subst (λ (f : Flow). host_asks f ≡ true) (sym flow) own)
+      (counted_asks p log (count_in c) (heard_at c port) request (subst (λ (f : Flow). host_asks f ≡ true) (sym flow) own)
       (subst (λ (f : Flow). number_of Device f log + 1 ≤ count_in c f) (sym flow) (omega (arith, next)))
       (subst (λ (f : Flow). is_among f port.clean ≡ false) (sym flow) unkept))
       (subst (λ (line : List ℕ). Goes (gives e.value.end) (gives k.end) (e.value.ok_line ++ e.value.pending) (line ++ k.pending) [] []) (sym ok)
@@ -231,7 +237,8 @@ module _ (c : HostContents) (log : Log) (port : Ports) (t : Table DeviceConnecti
           → IsStreamed c (GotPacket p ∷ log) port (with_value t e.slot (heard p.header e.value)) hands
       hears_streams v now other undelivered = goes_host c log (GotPacket p ∷ log) port t hands x sound e is
           (heard p.header e.value) refl refl refl p.payload put_same
-          got_here (heard_here (heard p.header e.value) refl) (λ f apart. number_same f) (counted_got p log (count_in c) port.clean)
+          got_here (heard_here (heard p.header e.value) refl) (λ f apart. number_same f)
+          (counted_got p log (count_in c) (heard_at c port) (none_lacks (heard_at c port).serving p log plain))
           (stays_still (gives e.value.end) (gives (end_after e.value.end p.header)) (e.value.ok_line ++ e.value.pending) p.payload
           (hears_gives e.value.end p.header v now other) (λ on. whole.none (gives_delivered e.value.end p v now undelivered on)))
           (λ on. (got_asked e.value.end p.header on, (λ none. none), λ none. none))
@@ -240,7 +247,8 @@ module _ (c : HostContents) (log : Log) (port : Ports) (t : Table DeviceConnecti
           → IsStreamed c (GotPacket p ∷ log) port (with_value t e.slot (record (heard p.header e.value) { pending = e.value.pending ++ payload })) hands
       delivers_streams payload same now = goes_host c log (GotPacket p ∷ log) port t hands x sound e is
           (record (heard p.header e.value) { pending = e.value.pending ++ payload }) refl refl refl p.payload put_same got_here
-          (heard_here (record (heard p.header e.value) { pending = e.value.pending ++ payload }) refl) (λ f apart. number_same f) (counted_got p log (count_in c) port.clean)
+          (heard_here (record (heard p.header e.value) { pending = e.value.pending ++ payload }) refl) (λ f apart. number_same f)
+          (counted_got p log (count_in c) (heard_at c port) (none_lacks (heard_at c port).serving p log plain))
           (subst (λ (bytes : List ℕ). Goes (gives e.value.end) (gives (end_after e.value.end p.header)) (e.value.ok_line ++ e.value.pending)
           (e.value.ok_line ++ (e.value.pending ++ bytes)) [] p.payload) (sym same)
           (comes_behind (gives e.value.end) (gives (end_after e.value.end p.header)) e.value.ok_line e.value.pending p.payload
@@ -254,7 +262,8 @@ module _ (c : HostContents) (log : Log) (port : Ports) (t : Table DeviceConnecti
       accepts_streams client line written now =
           answered_host c log (GotPacket p ∷ log) port t hands x sound e is (record (heard p.header e.value) { ok_line = line }) refl refl
           refl p.payload put_same got_here
-          (heard_here (record (heard p.header e.value) { ok_line = line }) refl) (λ f apart. number_same f) (counted_got p log (count_in c) port.clean)
+          (heard_here (record (heard p.header e.value) { ok_line = line }) refl) (λ f apart. number_same f)
+          (counted_got p log (count_in c) (heard_at c port) (none_lacks (heard_at c port).serving p log plain))
           (accepts_asked e.value.end p.header now)
           (ap (λ (k : Connection). payload_got Device k log) (sym (present_old log e old)) ∙ present_got Device e.flow log (was e.flow)
           ∙ nothing (side_of Device e.flow) (history_of Device e.flow log) (accepts_response e.value.end p now) older fair_here)
@@ -283,26 +292,27 @@ module _ (c : HostContents) (log : Log) (port : Ports) (t : Table DeviceConnecti
 
     -- On a flow none of whose connections is given it.
     pub passes_streams : All (λ e. e.flow ≡ flow_got Device p → gives e.value.end ≡ true → p.payload ≡ []) t.entries
-        → All (λ e. e.flow ≡ flow_got Device p → is_request p ≡ false) t.entries → IsStreamed c (GotPacket p ∷ log) port t hands
-    passes_streams idle plain = passed_streamed (look c) c.labelled (count_in c) log (GotPacket p ∷ log) port t hands x (current Device (flow_got Device p) log)
+        → All (λ e. e.flow ≡ flow_got Device p → is_request p ≡ false) t.entries → Lacks (heard_at c port).serving p log → IsStreamed c (GotPacket p ∷ log) port t hands
+    passes_streams idle plain lacks = passed_streamed (look c) c.labelled (count_in c) log (GotPacket p ∷ log) (heard_at c port) t hands x (current Device (flow_got Device p) log)
         p.payload put_same (comes_on p log whole was fair) (λ i e within. number_kept p log (get_or t.entries i e).flow (plain i e within))
-        (counted_got p log (count_in c) port.clean) idle
+        (counted_got p log (count_in c) (heard_at c port) lacks) idle
 
-    pub unknown_streams : entry_of t (flow_got Device p) ≡ None → IsStreamed c (GotPacket p ∷ log) port t hands
+    pub unknown_streams : entry_of t (flow_got Device p) ≡ None → Lacks (heard_at c port).serving p log → IsStreamed c (GotPacket p ∷ log) port t hands
     unknown_streams none = passes_streams (λ i e within on. absurd (none_apart t (flow_got Device p) none i e within on))
         (λ i e within on. absurd (none_apart t (flow_got Device p) none i e within on))
 
     pub empty_streams : is_rw p ≡ false → is_request p ≡ false → IsStreamed c (GotPacket p ∷ log) port t hands
     empty_streams other plain = passes_streams (λ i e within on given. whole.none other) (λ i e within on. plain)
+        (none_lacks (heard_at c port).serving p log plain)
 
   -- Its flow is kept to be used again, or not: each of its streams has a REQUEST.
   pub keeps_streams : (e : DeviceEntry) → Contains t.entries e → is_new e.value.end ≡ false → (keep : Bool)
       → IsStreamed c log (record port { clean = kept_if keep e.flow port.clean }) t hands
-  keeps_streams e is old keep = kept_streamed (look c) c.labelled (count_in c) log port t hands x (kept_if keep e.flow port.clean)
+  keeps_streams e is old keep = kept_streamed (look c) c.labelled (count_in c) log (heard_at c port) (heard_at c (record port { clean = kept_if keep e.flow port.clean })) t hands x refl x.streams.slots
       (λ f y. by keep f y)
     where
       all : count_in c e.flow ≡ number_of Device e.flow log
-      all = sym (join_of (look c) c.labelled (count_in c) log port t hands x e is).newest
+      all = sym (join_of (look c) c.labelled (count_in c) log (heard_at c port) t hands x e is).newest
           ∙ ap (λ (b : Bool). cond b (number_of Device e.flow log + 1) (number_of Device e.flow log)) old
 
       own : (b k : Bool) (f : Flow) (marked : Bool) → count_in c f ≡ number_of Device f log
@@ -311,24 +321,37 @@ module _ (c : HostContents) (log : Log) (port : Ports) (t : Table DeviceConnecti
       own true k f marked every y = (y.0, y.1, λ is. every)
       own false k f marked every y = y
 
-      by : (keep : Bool) (f : Flow) → AreCounted (count_in c) port.clean log f → AreCounted (count_in c) (kept_if keep e.flow port.clean) log f
+      by : (keep : Bool) (f : Flow) → AreCounted (count_in c) (heard_at c port) log f
+          → AreCounted (count_in c) (heard_at c (record port { clean = kept_if keep e.flow port.clean })) log f
       by false f y = y
       by true f y = of (same_flow f e.flow) refl
         where
-          marks : Bool
-          marks = has is_clean_rst (puts (history_of Device f log))
+          marked : Bool
+          marked = has is_clean_rst (puts (history_of Device f log))
 
-          of : (s : Bool) → same_flow f e.flow ≡ s → AreCounted (count_in c) (kept CLEAN_PAIRS e.flow port.clean) log f
-          of true same = own (host_asks f) (is_among f (kept CLEAN_PAIRS e.flow port.clean)) f marks
+          served : Bool
+          served = serves (heard_at c port).serving log f
+
+          of : (s : Bool) → same_flow f e.flow ≡ s → AreCounted (count_in c) (heard_at c (record port { clean = kept CLEAN_PAIRS e.flow port.clean })) log f
+          of true same = own (host_asks f) (is_among f (kept CLEAN_PAIRS e.flow port.clean)) f (marked || served)
               (subst (λ (g : Flow). count_in c g ≡ number_of Device g log) (sym (same_flow_true f e.flow same)) all) y
           of false other = kept_less (host_asks f) (count_in c f) (number_of Device f log) (is_among f port.clean)
-              (is_among f (kept CLEAN_PAIRS e.flow port.clean)) marks (λ is. kept_among e.flow f port.clean is other) y
+              (is_among f (kept CLEAN_PAIRS e.flow port.clean)) marked served served (λ is. kept_among e.flow f port.clean is other) (λ is. is) y
+
+  -- No REQUEST is served any more.
+  pub lost_streams : (next : Ports) → port.next ≡ next.next → next.clean ≡ port.clean → next.serving.room ≡ port.serving.room
+      → next.serving.given ≡ port.serving.given → next.serving.lost ≡ true → IsStreamed c log next t hands
+  lost_streams next same clean room given lost =
+      kept_streamed (look c) c.labelled (count_in c) log (heard_at c port) (heard_at c next) t hands x same
+      (room ∙ x.streams.slots.0, subst (λ (n : ℕ). n ≤ length c.labelled) (sym given) x.streams.slots.1)
+      (λ f. fewer_served (count_in c) (heard_at c port) (heard_at c next) log f clean
+      (λ is. let both : true ≡ false = sym is ∙ lost_serves (heard_at c next).serving log f lost in absurd cc))
 
   -- A connection leaves, whose stream is closed or closes.
   pub leaves_streams : (e : DeviceEntry) → Contains t.entries e → e.value.closed ≡ true → (k : DeviceConnection)
       → IsStreamed c log port (without (with_value t e.slot k) e.slot) hands
   leaves_streams e is shut k = subst (λ (u : Table DeviceConnection). IsStreamed c log port u hands) (sym (without_changed t e.slot k))
-      (left_streamed (look c) c.labelled (count_in c) log port t hands x sound e is shut)
+      (left_streamed (look c) c.labelled (count_in c) log (heard_at c port) t hands x sound e is shut)
 
   pub closes_streams : (e : DeviceEntry) → Contains t.entries e → (k : DeviceConnection)
       → IsStreamed (after_close e.value.stream c) log port (without (with_value t e.slot k) e.slot) hands
@@ -343,7 +366,7 @@ module _ (c : HostContents) (log : Log) (port : Ports) (t : Table DeviceConnecti
   reads_streams was e is old n cid fair =
       let bytes = next_bytes e.value.stream n c in
       let p = payload_on Device cid e.flow e.value.end bytes in
-      let j = join_of (look c) c.labelled (count_in c) log port t hands x e is in
+      let j = join_of (look c) c.labelled (count_in c) log (heard_at c port) t hands x e is in
       let v : DeviceConnection = record e.value { end = with_payload_sent e.value.end (length bytes) } in
       read_host c log (PutPacket p ∷ log) port t hands x sound e is v
       refl refl refl n bytes refl
@@ -351,12 +374,12 @@ module _ (c : HostContents) (log : Log) (port : Ports) (t : Table DeviceConnecti
       (λ d. sym (got_over_put Device p log d))
       (both_old log (PutPacket p ∷ log) e v old old (sym (number_put Device p log e.flow refl)))
       (λ f. sym (number_put Device p log f refl))
-      (counted_put p log (count_in c) port.clean refl (λ guest. inl refl)) j.drains j.asked
+      (counted_put p log (count_in c) (heard_at c port) refl (λ guest. inl refl)) j.drains j.asked
 
   pub writes_streams : (e : DeviceEntry) → Contains t.entries e → is_new e.value.end ≡ false → (n : ℕ) → n ≤ length (to_write e.value)
       → IsStreamed (after_write e.value.stream (to_write e.value) (write.Took n) c) log port (with_value t e.slot (after_written n e.value)) hands
   writes_streams e is old n less =
-      let j = join_of (look c) c.labelled (count_in c) log port t hands x e is in
+      let j = join_of (look c) c.labelled (count_in c) log (heard_at c port) t hands x e is in
       let its : Connection = connection_of e log in
       let all = e.value.ok_line ++ e.value.pending in
       let k = after_written n e.value in
@@ -384,26 +407,34 @@ module _ (c : HostContents) (log : Log) (port : Ports) (t : Table DeviceConnecti
         still,
       )
 
+-- Listeners of the host come and go, where no REQUEST is said to be served.
+pub listened_host : (c : HostContents) (paths : List (List ℕ)) (log : Log) (port : Ports) (t : Table DeviceConnection) (hands : List Handshake)
+    → port.serving.lost ≡ true → IsStreamed c log port t hands → IsStreamed (record c { listening = paths }) log port t hands
+listened_host c paths log port t hands lost x =
+    let next : Ports = heard_at (record c { listening = paths }) port in
+    kept_streamed (look c) c.labelled (count_in c) log (heard_at c port) next t hands x refl x.streams.slots
+    (λ f. fewer_served (count_in c) (heard_at c port) next log f refl (λ is. let both : true ≡ false = sym is ∙ lost_serves next.serving log f lost in absurd cc))
+
 -- Calls on the host that change no bytes.
 pub called_host : (c : HostContents) (log : Log) (port : Ports) (t : Table DeviceConnection) (hands : List Handshake) → IsStreamed c log port t hands
     → IsStreamed (called c) log port t hands
-called_host c log port t hands x = same_host c (called c) log port t hands (λ j. refl) refl (λ f. refl) x
+called_host c log port t hands x = same_host c (called c) log port t hands (λ j. refl) refl refl (λ f. refl) x
 
 pub shut_write_host : (id : ℕ) (c : HostContents) (log : Log) (port : Ports) (t : Table DeviceConnection) (hands : List Handshake) → IsStreamed c log port t hands
     → IsStreamed (after_shut_write id c) log port t hands
 shut_write_host id c log port t hands x = same_host c (after_shut_write id c) log port t hands
-    (unseen id (λ s. record s { write_shut = true }) (with_shut_write_call c) (λ st. refl) (λ o st. refl)) refl
+    (unseen id (λ s. record s { write_shut = true }) (with_shut_write_call c) (λ st. refl) (λ o st. refl)) refl refl
     (counts_still id (λ s. record s { write_shut = true }) (with_shut_write_call c) (λ st. refl)) x
 
 -- Entries that are no packets.
 pub event_streams : (c : HostContents) (log : Log) (id : ℕ) (port : Ports) (t : Table DeviceConnection) (hands : List Handshake) → IsStreamed c log port t hands
     → IsStreamed c (PutEvent id ∷ log) port t hands
-event_streams c log id port t hands x = same_streamed (look c) (look c) c.labelled (count_in c) log (PutEvent id ∷ log) port (λ j. refl)
+event_streams c log id port t hands x = same_streamed (look c) (look c) c.labelled (count_in c) log (PutEvent id ∷ log) (heard_at c port) (λ j. refl)
     (record { put = λ d. refl; got = λ d. refl; number = λ f. refl; counted = λ kept f y. y }) t hands x
 
 pub mark_streams : (c : HostContents) (log : Log) (cid : ℕ) (port : Ports) (t : Table DeviceConnection) (hands : List Handshake) → IsStreamed c log port t hands
     → IsStreamed c (Mark cid ∷ log) port t hands
-mark_streams c log cid port t hands x = same_streamed (look c) (look c) c.labelled (count_in c) log (Mark cid ∷ log) port (λ j. refl)
+mark_streams c log cid port t hands x = same_streamed (look c) (look c) c.labelled (count_in c) log (Mark cid ∷ log) (heard_at c port) (λ j. refl)
     (record { put = λ d. refl; got = λ d. refl; number = λ f. refl; counted = λ kept f y. y }) t hands x
 
 -- A line goes on, where it isn't decided.
@@ -416,10 +447,11 @@ goes_on line is = by (is_decided 32 line) (connect_port line) is
     by true (Some port) is = absurd cc
 
 -- A host none of whose streams has a label, and a table without connections.
-pub no_labels : (c : HostContents) (port : Ports) (t : Table DeviceConnection) → t.entries ≡ [] → c.labelled ≡ []
+pub no_labels : (c : HostContents) (port : Ports) (t : Table DeviceConnection) → t.entries ≡ [] → (port.serving.given ≡ 0) × (port.serving.room ≡ DEVICE_CONNECTIONS)
+    → c.labelled ≡ []
     → ((id : ℕ) (s : Seen) (k : Connection) → look c id ≡ Some s → s.label ≢ Some k)
     → ((id : ℕ) (s : Seen) → look c id ≡ Some s → s.waiting ≡ true → s ≡ client_waits) → IsStreamed c [] port t []
-no_labels c port t empty unlabelled none waits = record {
+no_labels c port t empty slots unlabelled none waits = record {
   joined = subst (λ (es : List DeviceEntry). All (IsJoined (look c) (count_in c) []) es) (sym empty) (λ i e within. absurd (omega (arith, within)));
   tabled = λ id s k there label. absurd (none id s k there label);
   streams = record {
@@ -429,7 +461,8 @@ no_labels c port t empty unlabelled none waits = record {
         let none_counted = ap (λ (ids : List ℕ). length (filter (is_labelled k.flow c) ids)) unlabelled in
         absurd (omega (arith, some, most, none_counted));
     listed = λ id within. absurd (nowhere (subst (λ (ids : List ℕ). Contains ids id) unlabelled within));
-    counted = λ f. subst (λ (ids : List ℕ). AreCounted (λ g. length (filter (is_labelled f c) ids)) port.clean [] f) (sym unlabelled) (empty_counted f);
+    slots = (slots.1, subst (λ (n : ℕ). n ≤ length c.labelled) (sym slots.0) (omega arith));
+    counted = λ f. subst (λ (ids : List ℕ). AreCounted (λ g. length (filter (is_labelled f c) ids)) (heard_at c port) [] f) (sym unlabelled) (empty_counted f);
     none = λ k without. nothing_put (side_of Device k.flow) k.number;
     waiting = waits;
     lines = record {
@@ -447,17 +480,17 @@ no_labels c port t empty unlabelled none waits = record {
     nothing_put Asker k = refl
     nothing_put Answerer k = refl
 
-    empty_counted : (f : Flow) → AreCounted (λ g. 0) port.clean [] f
+    empty_counted : (f : Flow) → AreCounted (λ g. 0) (heard_at c port) [] f
     empty_counted f = none_in (host_asks f)
       where
-        none_in : (b : Bool) → CountMatches b 0 (asked_by (side_by Device b) [] []) (is_among f port.clean) false
+        none_in : (b : Bool) → CountMatches b 0 (asked_by (side_by Device b) [] []) (is_among f port.clean) (serves (heard_at c port).serving [] f)
         none_in true = (omega arith, omega arith, λ kept. refl)
-        none_in false = (omega arith, λ marked. absurd cc)
+        none_in false = (omega arith, λ served. refl)
 
 -- A host without streams.
-pub no_streams : (c : HostContents) (port : Ports) (t : Table DeviceConnection) → t.entries ≡ [] → c.streams ≡ [] → c.labelled ≡ [] → IsStreamed c [] port t []
-no_streams c port t empty fresh unlabelled =
-    no_labels c port t empty unlabelled (λ id s k there on. none id s there) (λ id s there waits. absurd (none id s there))
+pub no_streams : (c : HostContents) (port : Ports) (t : Table DeviceConnection) → t.entries ≡ [] → (port.serving.given ≡ 0) × (port.serving.room ≡ DEVICE_CONNECTIONS) → c.streams ≡ [] → c.labelled ≡ [] → IsStreamed c [] port t []
+no_streams c port t empty slots fresh unlabelled =
+    no_labels c port t empty slots unlabelled (λ id s k there on. none id s there) (λ id s there waits. absurd (none id s there))
   where
     by : (b : Bool) (id : ℕ) (s : Seen) → option_map (seen c id) (cond b None (slice_get {X = Stream} [] (id - 1))) ≡ Some s → ⊥
     by true id s there = cc

@@ -7,13 +7,13 @@ use Rattle.vs_outside.specs.Host.{HostContents, after_close}
 use Rattle.vs_page.specs.Log.{Log}
 use Rattle.vs_proxy_parts.specs.State.{Handshake}
 use Rattle.laws_tables.proofs.Slots.{found_by}
-use Rattle.laws_device.specs.{Named.Streams.{joined_stream, stream_under}, Carried.Streamed.{AreLabelled, IsJoined, IsStreamed, Ports, Seen, connection_of, count_in, look}}
+use Rattle.laws_device.specs.{Named.Streams.{joined_stream, stream_under}, Carried.Streamed.{AreLabelled, IsJoined, IsStreamed, Ports, Seen, connection_of, count_in, heard_at, look}}
 use Rattle.laws_device.{specs.Carried.Streamed.reading, proofs.{Named.Tables.{joined_in, stream_closed_under, value_in}, Carried.HostCalls.{open_before, shut_labels, some_seen}}}
 
 -- A stream with a label that isn't closed is that of a connection under one of these slots. No line is of such a stream.
 pub record IsClosing (rest : List ℕ) (t : Table DeviceConnection) (c : HostContents) (log : Log) (port : Ports)
     (hands : List Handshake) : Type 0 where
-  pub streams : AreLabelled (look c) c.labelled (count_in c) log port hands
+  pub streams : AreLabelled (look c) c.labelled (count_in c) log (heard_at c port) hands
   pub left : (id : ℕ) (s : Seen) (k : Connection) → look c id ≡ Some s → s.label ≡ Some k → s.closed ≡ false
       → (slot : ℕ) × (stream_under t slot ≡ Some id) × Contains rest slot
   pub away : (slot id : ℕ) → stream_under t slot ≡ Some id → All (λ h. h.stream ≢ id) hands
@@ -132,7 +132,7 @@ module _ (c : HostContents) (log : Log) (port : Ports) (t : Table DeviceConnecti
       closing_now open_still =
           let at : stream_under t slot ≡ Some e.value.stream = here ∙ ap (λ (b : Bool). cond b None (Some e.value.stream)) open_still in
           record {
-            streams = shut_labels e.value.stream c log port hands x.streams (x.away slot e.value.stream at);
+            streams = shut_labels e.value.stream c log (heard_at c port) hands x.streams (x.away slot e.value.stream at);
             left = λ id s f there label still.
                 let before = open_before e.value.stream c id s there still in
                 let old = x.left id s f before.0 label still in

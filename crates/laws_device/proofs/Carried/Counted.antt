@@ -1,5 +1,5 @@
 -- The streams with a flow as label against the REQUESTs of a log, entry by entry.
-use Rattle.std.proofs.Common.{◌≡◌, ◌≢◌, ℕ, ◌+◌, ◌≤◌, ◌||◌, Bool, true, false, cond, List, [], ◌∷◌, ◌++◌, refl, sym, ap, subst, ◌∙◌, arith, ◌⊎◌, inl, inr}
+use Rattle.std.proofs.Common.{◌≡◌, ◌≢◌, ℕ, ◌+◌, ◌≤◌, ◌||◌, ◌&&◌, nat_lt, not, Bool, true, false, cond, List, [], ◌∷◌, ◌++◌, refl, sym, ap, subst, ◌∙◌, arith, ◌⊎◌, inl, inr}
 use Rattle.std.proofs.lemmas.{Bool.Decides.nat_tests, Grind.common_steps}
 use Rattle.vs_flow.{specs.{Connection.Connection, Flow.{host_asks, same_flow}, declared.flow.Flow.Flow}, proofs.Entries.{same_flow_false, same_flow_true}}
 use Rattle.laws_history.specs.{Again.{MayPutNow, count, IsClean}, Packets.{has, is_clean_rst, is_request, is_rw}, History.{Asker, Got, History, Put, Side, gots, peer, puts}}
@@ -8,52 +8,129 @@ use Rattle.vs_page.specs.{Fair.{IsFairLog, asked_by, current, number_of, payload
 use Rattle.vs_page.{specs.{Log.whole_of, declared.log.LogEntry.TheVariants.{GotPacket, PutPacket}}, proofs.Flows.same_self}
 use Rattle.laws_tables.{specs.{Drains.only_on, Ends.is_among}, proofs.{Adding.{got_adds, got_nothing, number_put, put_nothing, got_over_put}, Fair.own_got_fair, Firsts.asker_asks}}
 use Rattle.laws_tables.proofs.{Firsts.no_present, Logs.none_on_any}
-use Rattle.laws_device.{specs.Carried.Streamed.{AreCounted, CountMatches}, proofs.Carried.Streamed.StaysStill}
+use Rattle.laws_device.{specs.Carried.Streamed.{AreCounted, CountMatches, Ports, Serving, asks_streams, is_heard, serves}, proofs.Carried.Streamed.StaysStill}
+use Rattle.vs_conn.specs.End.{is_of}
+use Rattle.vs_header.specs.declared.Kind.TheVariants as kind
 
--- No other flow is kept.
-pub kept_less : (b : Bool) (count number : ℕ) (was now marked : Bool) → (now ≡ true → was ≡ true) → CountMatches b count number was marked
-    → CountMatches b count number now marked
-kept_less true count number was now marked less x = (x.0, x.1, λ is. x.2 (less is))
-kept_less false count number was now marked less x = x
+-- No other flow is kept, and none is served that wasn't.
+pub kept_less : (b : Bool) (count number : ℕ) (was now marked served serves : Bool) → (now ≡ true → was ≡ true) → (serves ≡ true → served ≡ true)
+    → CountMatches b count number was (marked || served) → CountMatches b count number now (marked || serves)
+kept_less true count number was now marked served serves less few x = (x.0, x.1, λ is. x.2 (less is))
+kept_less false count number was now true served serves less few x = x
+kept_less false count number was now false served serves less few x = (x.0, λ is. x.1 (few is))
+
+pub fewer_served : (n : Flow → ℕ) (port next : Ports) (log : Log) (f : Flow) → next.clean ≡ port.clean
+    → (serves next.serving log f ≡ true → serves port.serving log f ≡ true) → AreCounted n port log f → AreCounted n next log f
+fewer_served n port next log f clean few =
+    kept_less (host_asks f) (n f) (number_of Device f log) (is_among f port.clean) (is_among f next.clean) (has is_clean_rst (puts (history_of Device f log)))
+    (serves port.serving log f) (serves next.serving log f) (λ is. ap (λ (fs : List Flow). is_among f fs) (sym clean) ∙ is) few
 
 -- The same, by what passed on a flow, and what did on its present connection.
-abbrev AreIn : Bool → ℕ → Bool → History → History → Type 0
-AreIn b n k w h = CountMatches b n (asked_by (side_by Device b) (puts w) (gots w)) k (has is_clean_rst (puts h))
+abbrev AreIn : Bool → ℕ → Bool → Bool → History → History → Type 0
+AreIn b n k served w h = CountMatches b n (asked_by (side_by Device b) (puts w) (gots w)) k (has is_clean_rst (puts h) || served)
 
-got_in : (b s : Bool) (p : Packet) (n : ℕ) (k : Bool) (w h : History) → AreIn b n k w h → AreIn b n k (cond s (Got p ∷ w) w) (cond s (and_then (Got p) h) h)
-got_in b false p n k w h x = x
-got_in true true p n k w h x = x
-got_in false true p n k w h x = by (is_request p)
+got_in : (b s : Bool) (p : Packet) (n : ℕ) (k served serves : Bool) (w h : History) → (serves ≡ true → served ≡ true)
+    → (s ≡ true → b ≡ false → is_request p ≡ true → serves ≡ false) → AreIn b n k served w h → AreIn b n k serves (cond s (Got p ∷ w) w) (cond s (and_then (Got p) h) h)
+got_in b false p n k served serves w h few lacks x =
+    kept_less b n (asked_by (side_by Device b) (puts w) (gots w)) k k (has is_clean_rst (puts h)) served serves (λ is. is) few x
+got_in true true p n k served serves w h few lacks x = x
+got_in false true p n k served serves w h few lacks x = by (is_request p) (lacks refl refl)
   where
-    by : (r : Bool) → CountMatches false n (cond r (count is_request (gots w) + 1) (count is_request (gots w))) k
-        (has is_clean_rst (puts (cond r (Got p ∷ []) (Got p ∷ h))))
-    by true = (omega (arith, x.0), λ marked. absurd cc)
-    by false = x
+    by : (r : Bool) → (r ≡ true → serves ≡ false) → CountMatches false n (cond r (count is_request (gots w) + 1) (count is_request (gots w))) k
+        (has is_clean_rst (puts (cond r (Got p ∷ []) (Got p ∷ h))) || serves)
+    by true none = (omega (arith, x.0), λ marked. let both : false ≡ true = sym (none refl) ∙ marked in absurd cc)
+    by false none = kept_less false n (count is_request (gots w)) k k (has is_clean_rst (puts h)) served serves (λ is. is) few x
+
+-- A REQUEST that comes lacks what it needs, or none comes.
+abbrev pub Lacks : Serving → Packet → Log → Type 0
+Lacks v p log = host_asks (flow_got Device p) ≡ false → is_request p ≡ true → serves v (GotPacket p ∷ log) (flow_got Device p) ≡ false
+
+still_served : (v : Serving) (p : Packet) (log : Log) (f : Flow) → serves v (GotPacket p ∷ log) f ≡ true → serves v log f ≡ true
+still_served v p log f is = by (is_heard v f) (nat_lt v.given v.room) (not v.lost) (not (is_request p) || is_of kind.Stream p.header) is
+  where
+    by : (a b c d : Bool) → (a && (b && (c && (d && asks_streams log)))) ≡ true → (a && (b && (c && asks_streams log))) ≡ true
+    by true true true true is = is
+    by false b c d is = absurd cc
+    by true false c d is = absurd cc
+    by true true false d is = absurd cc
+    by true true true false is = absurd cc
 
 -- A packet comes: no more are marked after it, and a REQUEST is one more.
-pub counted_got : (p : Packet) (log : Log) (n : Flow → ℕ) (kept : List Flow) (f : Flow) → AreCounted n kept log f → AreCounted n kept (GotPacket p ∷ log) f
-counted_got p log n kept f x =
-    got_in (host_asks f) (same_flow f (flow_got Device p)) p (n f) (is_among f kept) (whole_of Device f log) (history_of Device f log) x
+pub counted_on : (p : Packet) (log : Log) (n : Flow → ℕ) (port : Ports) (f : Flow)
+    → (same_flow f (flow_got Device p) ≡ true → host_asks f ≡ false → is_request p ≡ true → serves port.serving (GotPacket p ∷ log) f ≡ false)
+    → AreCounted n port log f → AreCounted n port (GotPacket p ∷ log) f
+counted_on p log n port f lacks x =
+    got_in (host_asks f) (same_flow f (flow_got Device p)) p (n f) (is_among f port.clean) (serves port.serving log f) (serves port.serving (GotPacket p ∷ log) f)
+    (whole_of Device f log) (history_of Device f log) (still_served port.serving p log f) lacks x
 
-put_in : (b s : Bool) (p : Packet) (n : ℕ) (k : Bool) (w h : History) → is_request p ≡ false → (s ≡ true → b ≡ false → (is_clean_rst p ≡ false) ⊎ (n ≡ count is_request (gots w)))
-    → AreIn b n k w h → AreIn b n k (cond s (Put p ∷ w) w) (cond s (and_then (Put p) h) h)
-put_in b false p n k w h plain marks x = x
-put_in true true p n k w h plain marks x =
+pub counted_got : (p : Packet) (log : Log) (n : Flow → ℕ) (port : Ports) → Lacks port.serving p log → (f : Flow) → AreCounted n port log f
+    → AreCounted n port (GotPacket p ∷ log) f
+counted_got p log n port lacks f = counted_on p log n port f
+    (λ own. subst (λ (g : Flow). host_asks g ≡ false → is_request p ≡ true → serves port.serving (GotPacket p ∷ log) g ≡ false)
+    (sym (same_flow_true f (flow_got Device p) own)) lacks)
+
+-- One more slot was given.
+pub slot_served : (v : Serving) (log : Log) (f : Flow) → serves (record v { given = v.given + 1 }) log f ≡ true → serves v log f ≡ true
+slot_served v log f is = by (is_heard v f) (nat_lt (v.given + 1) v.room) (nat_lt v.given v.room) (λ less. grind (arith, nat_tests, less)) is
+  where
+    by : (a b c : Bool) → (b ≡ true → c ≡ true) → (a && (b && (not v.lost && asks_streams log))) ≡ true → (a && (c && (not v.lost && asks_streams log))) ≡ true
+    by true true true less is = is
+    by true true false less is = absurd (let no = less refl in cc)
+    by true false c less is = absurd cc
+    by false b c less is = absurd cc
+
+pub none_lacks : (v : Serving) (p : Packet) (log : Log) → is_request p ≡ false → Lacks v p log
+none_lacks v p log plain guest asks = let both : true ≡ false = sym asks ∙ plain in absurd cc
+
+second_none : (a b rest : Bool) → b ≡ false → (a && (b && rest)) ≡ false
+second_none true b rest is = ap (λ (c : Bool). c && rest) is
+second_none false b rest is = refl
+
+and_none : (a b : Bool) → b ≡ false → (a && b) ≡ false
+and_none true b is = is
+and_none false b is = refl
+
+pub lost_serves : (v : Serving) (log : Log) (f : Flow) → v.lost ≡ true → serves v log f ≡ false
+lost_serves v log f is =
+    let none = second_none (nat_lt v.given v.room) (not v.lost) (asks_streams log) (ap not is) in and_none (is_heard v f) _ none
+
+module _ (v : Serving) (p : Packet) (log : Log) where
+  pub own_lacks : host_asks (flow_got Device p) ≡ true → Lacks v p log
+  own_lacks own guest asks = let both : true ≡ false = sym own ∙ guest in absurd cc
+
+  pub lost_lacks : v.lost ≡ true → Lacks v p log
+  lost_lacks is guest asks = lost_serves v (GotPacket p ∷ log) (flow_got Device p) is
+
+  pub unheard_lacks : is_heard v (flow_got Device p) ≡ false → Lacks v p log
+  unheard_lacks is guest asks = ap (λ (b : Bool). b && (nat_lt v.given v.room && (not v.lost && asks_streams (GotPacket p ∷ log)))) is
+
+  pub full_lacks : nat_lt v.given v.room ≡ false → Lacks v p log
+  full_lacks is guest asks =
+      second_none (is_heard v (flow_got Device p)) (nat_lt v.given v.room) (not v.lost && asks_streams (GotPacket p ∷ log)) is
+
+  pub odd_lacks : (is_of kind.Stream p.header && is_request p) ≡ false → Lacks v p log
+  odd_lacks is guest asks = grind (arith, common_steps, is, asks)
+
+put_in : (b s : Bool) (p : Packet) (n : ℕ) (k served : Bool) (w h : History) → is_request p ≡ false → (s ≡ true → b ≡ false → (is_clean_rst p ≡ false) ⊎ (n ≡ count is_request (gots w)))
+    → AreIn b n k served w h → AreIn b n k served (cond s (Put p ∷ w) w) (cond s (and_then (Put p) h) h)
+put_in b false p n k served w h plain marks x = x
+put_in true true p n k served w h plain marks x =
     subst (λ (r : Bool). CountMatches true n (cond r (count is_request (puts w) + 1) (count is_request (puts w))) k true) (sym plain) x
-put_in false true p n k w h plain marks x =
-    subst (λ (r : Bool). CountMatches false n (count is_request (gots w)) k (has is_clean_rst (puts (cond r (Put p ∷ []) (Put p ∷ h))))) (sym plain)
+put_in false true p n k served w h plain marks x =
+    subst (λ (r : Bool). CountMatches false n (count is_request (gots w)) k (has is_clean_rst (puts (cond r (Put p ∷ []) (Put p ∷ h))) || served)) (sym plain)
     (by (marks refl refl))
   where
-    by : (is_clean_rst p ≡ false) ⊎ (n ≡ count is_request (gots w)) → CountMatches false n (count is_request (gots w)) k (is_clean_rst p || has is_clean_rst (puts h))
-    by (inl not) = subst (λ (c : Bool). CountMatches false n (count is_request (gots w)) k (c || has is_clean_rst (puts h))) (sym not) x
+    by : (is_clean_rst p ≡ false) ⊎ (n ≡ count is_request (gots w)) → CountMatches false n (count is_request (gots w)) k
+        ((is_clean_rst p || has is_clean_rst (puts h)) || served)
+    by (inl not) = subst (λ (c : Bool). CountMatches false n (count is_request (gots w)) k ((c || has is_clean_rst (puts h)) || served)) (sym not) x
     by (inr all) = (x.0, λ marked. all)
 
 -- A packet is put that is no REQUEST: one that isn't marked, or one of a flow each REQUEST of which has its stream.
-pub counted_put : (p : Packet) (log : Log) (n : Flow → ℕ) (kept : List Flow) → is_request p ≡ false
+pub counted_put : (p : Packet) (log : Log) (n : Flow → ℕ) (port : Ports) → is_request p ≡ false
     → (host_asks (flow_put Device p) ≡ false → (is_clean_rst p ≡ false) ⊎ (n (flow_put Device p) ≡ number_of Device (flow_put Device p) log))
-    → (f : Flow) → AreCounted n kept log f → AreCounted n kept (PutPacket p ∷ log) f
-counted_put p log n kept plain marks f x =
-    put_in (host_asks f) (same_flow f (flow_put Device p)) p (n f) (is_among f kept) (whole_of Device f log) (history_of Device f log) plain
+    → (f : Flow) → AreCounted n port log f → AreCounted n port (PutPacket p ∷ log) f
+counted_put p log n port plain marks f x =
+    put_in (host_asks f) (same_flow f (flow_put Device p)) p (n f) (is_among f port.clean) (serves port.serving log f) (whole_of Device f log) (history_of Device f log) plain
     (λ own guest. by own guest (marks (subst (λ (g : Flow). host_asks g ≡ false) (same_flow_true f (flow_put Device p) own) guest))) x
   where
     by : same_flow f (flow_put Device p) ≡ true → host_asks f ≡ false
@@ -72,38 +149,38 @@ put_still p log n none plain marks = record {
   put = put_nothing Device p log none;
   got = λ c. sym (got_over_put Device p log c);
   number = λ f. sym (number_put Device p log f plain);
-  counted = λ kept. counted_put p log n kept plain marks;
+  counted = λ port. counted_put p log n port plain marks;
 }
 
 -- A REQUEST is put on a flow that isn't kept: it has a stream there.
-pub counted_asks : (p : Packet) (log : Log) (n : Flow → ℕ) (kept : List Flow) → is_request p ≡ true → host_asks (flow_put Device p) ≡ true
-    → number_of Device (flow_put Device p) log + 1 ≤ n (flow_put Device p) → is_among (flow_put Device p) kept ≡ false
-    → (f : Flow) → AreCounted n kept log f → AreCounted n kept (PutPacket p ∷ log) f
-counted_asks p log n kept asks assigned room unkept f x = by (same_flow f (flow_put Device p)) refl
+pub counted_asks : (p : Packet) (log : Log) (n : Flow → ℕ) (port : Ports) → is_request p ≡ true → host_asks (flow_put Device p) ≡ true
+    → number_of Device (flow_put Device p) log + 1 ≤ n (flow_put Device p) → is_among (flow_put Device p) port.clean ≡ false
+    → (f : Flow) → AreCounted n port log f → AreCounted n port (PutPacket p ∷ log) f
+counted_asks p log n port asks assigned room unkept f x = by (same_flow f (flow_put Device p)) refl
   where
-    there : host_asks f ≡ true → number_of Device f log + 1 ≤ n f → is_among f kept ≡ false
-        → AreIn (host_asks f) (n f) (is_among f kept) (Put p ∷ whole_of Device f log) (and_then (Put p) (history_of Device f log))
+    there : host_asks f ≡ true → number_of Device f log + 1 ≤ n f → is_among f port.clean ≡ false
+        → AreIn (host_asks f) (n f) (is_among f port.clean) (serves port.serving log f) (Put p ∷ whole_of Device f log) (and_then (Put p) (history_of Device f log))
     there own more none = of (host_asks f) own more x
       where
         of : (b : Bool) → b ≡ true → asked_by (side_by Device b) (puts (whole_of Device f log)) (gots (whole_of Device f log)) + 1 ≤ n f
-            → AreIn b (n f) (is_among f kept) (whole_of Device f log) (history_of Device f log)
-            → AreIn b (n f) (is_among f kept) (Put p ∷ whole_of Device f log) (and_then (Put p) (history_of Device f log))
+            → AreIn b (n f) (is_among f port.clean) (serves port.serving log f) (whole_of Device f log) (history_of Device f log)
+            → AreIn b (n f) (is_among f port.clean) (serves port.serving log f) (Put p ∷ whole_of Device f log) (and_then (Put p) (history_of Device f log))
         of true own more x =
             let most = x.1 in
             let m : ℕ = count is_request (puts (whole_of Device f log)) in
-            let now : CountMatches true (n f) (m + 1) (is_among f kept) true =
+            let now : CountMatches true (n f) (m + 1) (is_among f port.clean) true =
             (more, omega (arith, most), λ is. let both : true ≡ false = sym is ∙ none in absurd cc) in
-            subst (λ (r : Bool). CountMatches true (n f) (cond r (m + 1) m) (is_among f kept) true) (sym asks) now
+            subst (λ (r : Bool). CountMatches true (n f) (cond r (m + 1) m) (is_among f port.clean) true) (sym asks) now
         of false own more x = absurd cc
 
     by : (s : Bool) → same_flow f (flow_put Device p) ≡ s
-        → AreIn (host_asks f) (n f) (is_among f kept) (cond s (Put p ∷ whole_of Device f log) (whole_of Device f log))
+        → AreIn (host_asks f) (n f) (is_among f port.clean) (serves port.serving log f) (cond s (Put p ∷ whole_of Device f log) (whole_of Device f log))
         (cond s (and_then (Put p) (history_of Device f log)) (history_of Device f log))
     by false other = x
     by true own =
         let same = sym (same_flow_true f (flow_put Device p) own) in
         there (subst (λ (g : Flow). host_asks g ≡ true) same assigned) (subst (λ (g : Flow). number_of Device g log + 1 ≤ n g) same room)
-        (subst (λ (g : Flow). is_among g kept ≡ false) same unkept)
+        (subst (λ (g : Flow). is_among g port.clean ≡ false) same unkept)
 
 -- A REQUEST comes, where the log stays fair: each one before it had its stream. And it is one more on its flow, which is the guest's.
 pub record IsAsked (n : Flow → ℕ) (log : Log) (p : Packet) : Type 0 where
@@ -111,9 +188,9 @@ pub record IsAsked (n : Flow → ℕ) (log : Log) (p : Packet) : Type 0 where
   pub all : n (flow_got Device p) ≡ number_of Device (flow_got Device p) log
   pub next : number_of Device (flow_got Device p) (GotPacket p ∷ log) ≡ number_of Device (flow_got Device p) log + 1
 
-pub request_asks : (p : Packet) (log : Log) (n : Flow → ℕ) (kept : List Flow) → IsFairLog Device (GotPacket p ∷ log) → is_request p ≡ true
-    → AreCounted n kept log (flow_got Device p) → IsAsked n log p
-request_asks p log n kept fair asks x = record { guest = guest (host_asks f) refl; all = all; next = next }
+pub request_asks : (p : Packet) (log : Log) (n : Flow → ℕ) (port : Ports) → IsFairLog Device (GotPacket p ∷ log) → is_request p ≡ true
+    → AreCounted n port log (flow_got Device p) → IsAsked n log p
+request_asks p log n port fair asks x = record { guest = guest (host_asks f) refl; all = all; next = next }
   where
     f : Flow
     f = flow_got Device p
@@ -142,8 +219,8 @@ request_asks p log n kept fair asks x = record { guest = guest (host_asks f) ref
     nothing (Put q ∷ h) a b = absurd cc
     nothing (Got q ∷ h) a b = absurd cc
 
-    counted : CountMatches false (n f) (number_of Device f log) (is_among f kept) (has is_clean_rst (puts h))
-    counted = subst (λ (b : Bool). CountMatches b (n f) (number_of Device f log) (is_among f kept) (has is_clean_rst (puts h))) outside x
+    counted : CountMatches false (n f) (number_of Device f log) (is_among f port.clean) (has is_clean_rst (puts h) || serves port.serving log f)
+    counted = subst (λ (b : Bool). CountMatches b (n f) (number_of Device f log) (is_among f port.clean) (has is_clean_rst (puts h) || serves port.serving log f)) outside x
 
     empty : (w : History) (side : Side) → w ≡ [] → asked_by side (puts w) (gots w) ≡ 0
     empty [] Asker is = refl
@@ -154,7 +231,7 @@ request_asks p log n kept fair asks x = record { guest = guest (host_asks f) ref
     all_by (inl (a, b)) =
         let zero_of : number_of Device f log ≡ 0 = empty w (side_of Device f) (no_present Device f log (nothing h a b)) in
         let most = counted.0 in omega (arith, zero_of, most)
-    all_by (inr clean) = counted.1 clean.marked
+    all_by (inr clean) = counted.1 (ap (λ (b : Bool). b || serves port.serving log f) clean.marked)
 
     all : n f ≡ number_of Device f log
     all = all_by (may.opens asks).0

@@ -12,6 +12,7 @@ use Rattle.vs_proxy_parts.specs.State.{Handshake}
 use Rattle.laws_tables.{specs.{Drains.{Drains, only_on}, Ends.is_new}, proofs.{Logs.{all_of, there_on}, Goes.{Goes, comes_in, drops, stays_still}}}
 use Rattle.laws_device.{specs.Carried.Streamed.{AreCounted, IsJoined, IsStreamed, Ports, connection_of, count_in, gives, line_for, look}, proofs.Carried.Streamed.changed_streamed}
 use Rattle.laws_device.proofs.Carried.Streamed.{join_of}
+use Rattle.laws_device.specs.Carried.Streamed.{heard_at}
 use Rattle.vs_conn.specs.declared.end.Owed.TheVariants as owed
 use Rattle.vs_conn.specs.declared.end.State.TheVariants as state
 use Rattle.vs_conn.specs.declared.end.Verdict.TheVariants as verdict
@@ -96,9 +97,9 @@ module _ (c : HostContents) (log new : Log) (port : Ports) (t : Table DeviceConn
     (got : (d : Connection) → payload_got Device d new ≡ payload_got Device d log ++ only_on (connection_of e log) came d)
     (keeps : connection_of (record e { value = k }) new ≡ connection_of e log)
     (number : (f : Flow) → f ≢ e.flow → number_of Device f log ≡ number_of Device f new)
-    (counted : (f : Flow) → AreCounted (count_in c) port.clean log f → AreCounted (count_in c) port.clean new f) where
+    (counted : (f : Flow) → AreCounted (count_in c) (heard_at c port) log f → AreCounted (count_in c) (heard_at c port) new f) where
   abbrev join : IsJoined (look c) (count_in c) log e
-  join = join_of (look c) c.labelled (count_in c) log port t hands x e is
+  join = join_of (look c) c.labelled (count_in c) log (heard_at c port) t hands x e is
 
   abbrev its : Connection
   its = connection_of e log
@@ -110,7 +111,7 @@ module _ (c : HostContents) (log new : Log) (port : Ports) (t : Table DeviceConn
       → (k.end.state ≡ state.Asked
       → (e.value.end.state ≡ state.Asked) × (e.value.ok_line ≡ [] → k.ok_line ≡ []) × (e.value.pending ≡ [] → k.pending ≡ []))
       → IsStreamed c new port (with_value t e.slot k) hands
-  goes_host goes asks = changed_streamed (look c) (look c) c.labelled (count_in c) log new port t hands x sound e is k stream client closed came
+  goes_host goes asks = changed_streamed (look c) (look c) c.labelled (count_in c) log new (heard_at c port) t hands x sound e is k stream client closed came
       (λ id. refl) put got keeps number counted
       (subst (λ (out : List ℕ). Drains (gives k.end) out (whole k) (line_for e.flow ++ payload_got Device its new)) (append-nil join.stream.given)
       (subst (λ (all : List ℕ). Drains (gives k.end) (join.stream.given ++ []) (whole k) all) all_came
@@ -131,7 +132,7 @@ module _ (c : HostContents) (log new : Log) (port : Ports) (t : Table DeviceConn
       let all : join.stream.given ++ whole k ≡ line_for e.flow ++ payload_got Device its new =
       ap (λ (bytes : List ℕ). bytes ++ whole k) a.0 ∙ ap (λ (bytes : List ℕ). bytes ++ k.pending) line
       ∙ ap (λ (bytes : List ℕ). line_for e.flow ++ bytes) (pending ∙ a.2 ∙ sym got_none) in
-      changed_streamed (look c) (look c) c.labelled (count_in c) log new port t hands x sound e is k stream client closed came
+      changed_streamed (look c) (look c) c.labelled (count_in c) log new (heard_at c port) t hands x sound e is k stream client closed came
       (λ id. refl) put got keeps number counted
       (record { front = all_of (join.stream.given ++ whole k) (line_for e.flow ++ payload_got Device its new) all; whole = λ on. all })
       (λ on. absurd (other on))

@@ -11,7 +11,7 @@ use Rattle.vs_page.specs.{Fair.{number_of, payload_got, payload_put}, Log.{Devic
 use Rattle.vs_proxy_parts.specs.State.{Handshake}
 use Rattle.vs_uds.specs.{Reading.is_decided, declared.connect.TheConstants.CONNECT_MAX}
 use Rattle.laws_tables.{specs.{Drains.{Drains, only_on}, Ends.is_new}, proofs.{Changes.others_left, Logs.none_on_any, Goes.drops}}
-use Rattle.laws_device.specs.Carried.Streamed.{AreCounted, AreLabelled, AreStreamed, IsJoined, IsLabelled, IsStreamed, Ports, Seen, client_waits, connection_of, count_in, gives}
+use Rattle.laws_device.specs.Carried.Streamed.{AreCounted, AreLabelled, AreStreamed, IsJoined, IsLabelled, IsStreamed, Ports, Seen, client_waits, connection_of, count_in, gives, heard_at}
 use Rattle.laws_device.{specs.Carried.Streamed.{has_line, line_for, look, reading, seen, seen_as, taken_of}, proofs.Carried.Streamed.{one_seen, is_or_not, join_moves, join_of}}
 use Rattle.laws_device.proofs.Carried.{Streamed.{moved_streamed, no_entry, one_streamed, recounted, recounted_labels, same_streamed, unlabelled_streamed}, Tabled.stream_stays}
 use Rattle.laws_device.proofs.Carried.{Lines.after_longer, Hosts.{changed_seen, counts_more, counts_still, new_look, none_there, others_look, others_seen, there, unseen_none}}
@@ -22,11 +22,13 @@ use Rattle.vs_outside.specs.declared.host_net.StreamWrite.TheVariants as write
 
 -- Another host, whose streams look the same.
 pub same_host : (c d : HostContents) (log : Log) (port : Ports) (t : Table DeviceConnection) (hands : List Handshake) → ((j : ℕ) → look c j ≡ look d j)
-    → d.labelled ≡ c.labelled → ((f : Flow) → count_in c f ≡ count_in d f) → IsStreamed c log port t hands → IsStreamed d log port t hands
-same_host c d log port t hands same labelled counts x =
-    subst (λ (ids : List ℕ). AreStreamed (look d) ids (count_in d) log port t hands) (sym labelled)
-    (recounted (look d) c.labelled (count_in c) (count_in d) log port t hands counts
-    (same_streamed (look c) (look d) c.labelled (count_in c) log log port same (no_entry (count_in c) log) t hands x))
+    → d.labelled ≡ c.labelled → d.listening ≡ c.listening → ((f : Flow) → count_in c f ≡ count_in d f) → IsStreamed c log port t hands → IsStreamed d log port t hands
+same_host c d log port t hands same labelled listens counts x =
+    subst (λ (paths : List (List ℕ)). let p : Ports = record port { serving = record port.serving { listening = paths } } in
+    AreStreamed (look d) d.labelled (count_in d) log p t hands) (sym listens)
+    (subst (λ (ids : List ℕ). AreStreamed (look d) ids (count_in d) log (heard_at c port) t hands) (sym labelled)
+    (recounted (look d) c.labelled (count_in c) (count_in d) log (heard_at c port) t hands counts
+    (same_streamed (look c) (look d) c.labelled (count_in c) log log (heard_at c port) same (no_entry (count_in c) log) t hands x)))
 
 pub some_seen : (s t : Seen) → ◌≡◌ {A = Option Seen} (Some s) (Some t) → s ≡ t
 some_seen s t is = cc
@@ -116,6 +118,7 @@ module _ (id : ℕ) (c : HostContents) where
       every = λ d some most. let b = x.every d some most in let u = is_seen b.0 b.1 d b.2 b.3 in (b.0, u.0, u.1, u.2);
       listed = λ j within. let h = x.listed j within in let u = is_seen j h.stream h.connection h.there h.label in
           record { stream = u.0; connection = h.connection; there = u.1; label = u.2 };
+      slots = x.slots;
       counted = x.counted;
       none = λ f without. x.none f (λ j b was label. let u = is_seen j b f was label in without j u.0 u.1 u.2);
       waiting = λ j u now waits. let w = was_seen j u now in waits_by j u w.before w.there w.how waits;
@@ -150,7 +153,7 @@ closed_host id c log port t hands x free away = record {
         asked = y.asked;
       }) t.entries x.joined;
   tabled = λ j u f now label still. x.tabled j u f (open_before id c j u now still).0 label still;
-  streams = shut_labels id c log port hands x.streams away;
+  streams = shut_labels id c log (heard_at c port) hands x.streams away;
 }
   where
     apart : (e : DeviceEntry) → IsJoined (look c) (count_in c) log e → e.value.stream ≢ id
@@ -176,7 +179,7 @@ same_ends log e v new =
 module _ (c : HostContents) (log : Log) (port : Ports) (t : Table DeviceConnection) (hands : List Handshake) (x : IsStreamed c log port t hands)
     (sound : IsTable t) (e : DeviceEntry) (is : Contains t.entries e) where
   abbrev cut : IsJoined (look c) (count_in c) log e
-  cut = join_of (look c) c.labelled (count_in c) log port t hands x e is
+  cut = join_of (look c) c.labelled (count_in c) log (heard_at c port) t hands x e is
 
   busy : (b : Bool) → cut.stream.waiting ≡ b → b ≡ false
   busy false waits = refl
@@ -200,9 +203,9 @@ module _ (c : HostContents) (log : Log) (port : Ports) (t : Table DeviceConnecti
       (sym (append-nil s.given)) in
       let gone = drops (gives e.value.end) (e.value.ok_line ++ e.value.pending) [] s.given
       (line_for e.flow ++ payload_got Device k log) cut.drains in
-      recounted (look d) c.labelled (count_in c) (count_in d) log port (with_value t e.slot (cut_off e.value)) hands
+      recounted (look d) c.labelled (count_in c) (count_in d) log (heard_at c port) (with_value t e.slot (cut_off e.value)) hands
       (counts_still e.value.stream (λ y. record y { state = state.Closed }) c (λ y. refl))
-      (moved_streamed (look c) (look d) c.labelled (count_in c) log log port t hands x sound e is [] [] [] (cut_off e.value) refl refl is_now
+      (moved_streamed (look c) (look d) c.labelled (count_in c) log log (heard_at c port) t hands x sound e is [] [] [] (cut_off e.value) refl refl is_now
       (λ j other. others_seen e.value.stream (λ y. record y { state = state.Closed }) c (λ y. refl) j other)
       (λ f. sym (none_on_any k f (payload_put Device f log)))
       (λ f. sym (none_on_any k f (payload_got Device f log))) (same_ends log e (cut_off e.value) new) (λ f other. refl) (λ f y. y)
@@ -230,7 +233,7 @@ module _ (c : HostContents) (log : Log) (port : Ports) (t : Table DeviceConnecti
         let before = open_before id c j u now still in
         let old = x.tabled j u k before.0 label still in
         (old.0, stream_stays t sound e is old.0 j old.1 before.1);
-    streams = shut_labels id c log port hands x.streams away;
+    streams = shut_labels id c log (heard_at c port) hands x.streams away;
   }
     where
       id : ℕ
@@ -277,8 +280,8 @@ module _ (y : Stream) (c : HostContents) (free : y.label ≡ None) where
 pub client_host : (c : HostContents) (log : Log) (port : Ports) (t : Table DeviceConnection) (hands : List Handshake) → IsStreamed c log port t hands
     → IsStreamed (after_client c) log port t hands
 client_host c log port t hands x =
-    recounted (look (after_client c)) c.labelled (count_in c) (count_in (after_client c)) log port t hands (counts_more client_stream c refl)
-    (unlabelled_streamed (look c) (look (after_client c)) c.labelled (count_in c) log port t hands hands x
+    recounted (look (after_client c)) c.labelled (count_in c) (count_in (after_client c)) log (heard_at c port) t hands (counts_more client_stream c refl)
+    (unlabelled_streamed (look c) (look (after_client c)) c.labelled (count_in c) log (heard_at c port) t hands hands x
     (λ j u is. let b = more_back client_stream c refl j u is in (b.0, b.1, λ new. (ap (λ (s : Seen). s.label) (b.2 new).0, λ waits. (b.2 new).0)))
     (λ j u f is on. more_kept client_stream c refl j u is)
     (record {
@@ -301,9 +304,9 @@ accepted_host id now c log port t hands answer x =
     let is_now : look d id ≡ Some (reading []) = changed_seen id (λ s. record s { state = state.Open }) (called c) (λ y. refl) st a.1 ∙ ap
     (λ (s : Seen). let r : Seen = record s { waiting = false; closed = false } in Some r) was in
     let others : (j : ℕ) → j ≢ id → look c j ≡ look d j = λ j other. others_seen id (λ s. record s { state = state.Open }) (called c) (λ y. refl) j other in
-    recounted (look d) c.labelled (count_in c) (count_in d) log port t (hands ++ record { stream = id; accepted_at = now; line = [] } ∷ [])
+    recounted (look d) c.labelled (count_in c) (count_in d) log (heard_at c port) t (hands ++ record { stream = id; accepted_at = now; line = [] } ∷ [])
     (counts_still id (λ s. record s { state = state.Open }) (called c) (λ y. refl))
-    (one_streamed (look c) (look d) c.labelled (count_in c) log port t hands (hands ++ record { stream = id; accepted_at = now; line = [] } ∷ []) x id (reading []) is_now
+    (one_streamed (look c) (look d) c.labelled (count_in c) log (heard_at c port) t hands (hands ++ record { stream = id; accepted_at = now; line = [] } ∷ []) x id (reading []) is_now
     refl refl (λ b is. ap (λ (s : Seen). s.label) (sym (some_seen (seen c id st) b (sym (ap (option_map (seen c id)) a.1) ∙ is)) ∙ was)) others
     (record {
       read = All-push (λ (h : Handshake). look d h.stream ≡ Some (reading h.line)) hands (record { stream = id; accepted_at = now; line = [] })
@@ -328,7 +331,7 @@ module _ (c : HostContents) (log new : Log) (port : Ports) (t : Table DeviceConn
     (sound : IsTable t) (e : DeviceEntry) (is : Contains t.entries e) (k : DeviceConnection) (stream : k.stream ≡ e.value.stream)
     (client : k.by_client ≡ e.value.by_client) (closed : k.closed ≡ e.value.closed) where
   abbrev pub joined : IsJoined (look c) (count_in c) log e
-  joined = join_of (look c) c.labelled (count_in c) log port t hands x e is
+  joined = join_of (look c) c.labelled (count_in c) log (heard_at c port) t hands x e is
 
   abbrev pub its : Connection
   its = connection_of e log
@@ -351,7 +354,7 @@ module _ (c : HostContents) (log new : Log) (port : Ports) (t : Table DeviceConn
       → ((d : Connection) → payload_got Device d log ≡ payload_got Device d new)
       → connection_of (record e { value = k }) new ≡ its
       → ((f : Flow) → number_of Device f log ≡ number_of Device f new)
-      → ((f : Flow) → AreCounted (count_in c) port.clean log f → AreCounted (count_in c) port.clean new f)
+      → ((f : Flow) → AreCounted (count_in c) (heard_at c port) log f → AreCounted (count_in c) (heard_at c port) new f)
       → Drains (gives k.end) joined.stream.given (k.ok_line ++ k.pending) (line_for e.flow ++ payload_got Device its log)
       → (k.end.state ≡ Asked → (joined.stream.given ≡ []) × (k.ok_line ≡ []) × (k.pending ≡ []) × (k.closed ≡ false))
       → IsStreamed (after_read e.value.stream (read.Got n) c) new port (with_value t e.slot k) hands
@@ -366,9 +369,9 @@ module _ (c : HostContents) (log new : Log) (port : Ports) (t : Table DeviceConn
       ∙ ap (λ (b : List ℕ). let r : Seen = record s { taken = s.taken ++ b } in Some r) (sym took)
       ∙ ap (λ (b : List ℕ). let r : Seen = record s { taken = s.taken ++ bytes; given = b } in Some r) (sym (append-nil s.given))
       ∙ ap (λ (b : Bool). let r : Seen = record s { taken = s.taken ++ bytes; given = s.given ++ []; closed = b } in Some r) same_closed in
-      recounted (look d) c.labelled (count_in c) (count_in d) new port (with_value t e.slot k) hands
+      recounted (look d) c.labelled (count_in c) (count_in d) new (heard_at c port) (with_value t e.slot k) hands
       (counts_still e.value.stream (take_bytes n) (called c) (λ y. refl))
-      (moved_streamed (look c) (look d) c.labelled (count_in c) log new port t hands x sound e is bytes [] [] k stream client is_now
+      (moved_streamed (look c) (look d) c.labelled (count_in c) log new (heard_at c port) t hands x sound e is bytes [] [] k stream client is_now
       (λ j other. others_seen e.value.stream (take_bytes n) (called c) (λ y. refl) j other) put
       (λ f. sym (got f) ∙ sym (none_on_any its f (payload_got Device f log))) keeps (λ f other. number f) counted
       (subst (λ (b : List ℕ). Drains (gives k.end) b (k.ok_line ++ k.pending) (line_for e.flow ++ payload_got Device its new)) (sym (append-nil s.given))
@@ -391,9 +394,9 @@ module _ (c : HostContents) (log new : Log) (port : Ports) (t : Table DeviceConn
       ∙ ap (λ (b : List ℕ). let r : Seen = record s { taken = b; given = s.given ++ take n bytes } in Some r) (sym (append-nil s.taken))
       ∙ ap (λ (b : Bool). let r : Seen = record s { taken = s.taken ++ []; given = s.given ++ take n bytes; closed = b } in Some r)
       same_closed in
-      recounted (look d) c.labelled (count_in c) (count_in d) log port (with_value t e.slot k) hands
+      recounted (look d) c.labelled (count_in c) (count_in d) log (heard_at c port) (with_value t e.slot k) hands
       (counts_still e.value.stream (give_bytes n bytes) (called c) (λ y. refl))
-      (moved_streamed (look c) (look d) c.labelled (count_in c) log log port t hands x sound e is [] (take n bytes) [] k stream client is_now
+      (moved_streamed (look c) (look d) c.labelled (count_in c) log log (heard_at c port) t hands x sound e is [] (take n bytes) [] k stream client is_now
       (λ j other. others_seen e.value.stream (give_bytes n bytes) (called c) (λ y. refl) j other) (λ f. sym (none_on_any its f (payload_put Device f log)))
       (λ f. sym (none_on_any its f (payload_got Device f log))) keeps (λ f other. refl) (λ f y. y) drains asked
       (taken_more s [] (s.given ++ take n bytes) k.closed whole_line))

@@ -1,6 +1,6 @@
 -- What the host's streams took and gave, as a line is read and a connection opens.
-use Rattle.std.proofs.Common.{◌≡◌, ◌≢◌, ℕ, zero, suc, ◌+◌, ◌≤◌, ◌==◌, min, Bool, true, false, cond, List, [], ◌∷◌, ◌++◌, length, take, get_or, Contains, Option, Some, None}
-use Rattle.std.proofs.{Common.{is_some, refl, sym, ap, subst, ◌∙◌, arith, ◌⊎◌, inl, inr}, lemmas.{Bool.Decides.nat_tests, Option.{get_or_from_slice_get, slice_get_within}}}
+use Rattle.std.proofs.Common.{◌≡◌, ◌≢◌, ℕ, zero, suc, ◌+◌, ◌≤◌, ◌==◌, ◌||◌, min, Bool, true, false, cond, List, [], ◌∷◌, ◌++◌, length, take, get_or, Contains, Option, Some, None}
+use Rattle.std.proofs.{Common.{is_some, refl, sym, ap, subst, ◌∙◌, arith, length-append, ◌⊎◌, inl, inr}, lemmas.{Bool.Decides.nat_tests, Option.{get_or_from_slice_get, slice_get_within}}}
 use Rattle.std.specs.{List.{All, find}, Option.{option_map, option_map_or}}
 use Rattle.vs_conn.specs.End.{answering, asked}
 use Rattle.vs_device_parts.specs.{Connections.new_connection, State.{DeviceConnection, DeviceEntry}}
@@ -8,7 +8,7 @@ use Rattle.vs_flow.specs.{Connection.Connection, CleanPairs.without_oldest, Flow
 use Rattle.vs_flow.{specs.Table.with_entry, proofs.{Entries.{found_passes, none_found, same_flow_true}, Lookups.find_place}}
 use Rattle.vs_header.specs.declared.Header.{Header}
 use Rattle.laws_history.specs.{History.{Got, gots, puts}, Packets.{has, is_clean_rst, is_request}, declared.packet.Packet.Packet}
-use Rattle.vs_limits.specs.declared.TheConstants.{BUF_ALLOC}
+use Rattle.vs_limits.specs.declared.TheConstants.{BUF_ALLOC, DEVICE_CONNECTIONS}
 use Rattle.vs_outside.specs.Host.{HostContents, Stream, after_close, after_dial, after_label, after_read, called, dialed_stream, fails_now, has_label, next_bytes, read_answer}
 use Rattle.vs_outside.{specs.{Host.{read_of, stream_at, take_bytes, with_label_call}, HostBytes.after_line}, proofs.Frames.{keeps_others, stream_at-with_stream}}
 use Rattle.vs_page.specs.{Fair.{IsFairLog, current, number_of, payload_got, payload_of, payload_put}, Log.{Device, Log, and_then, flow_got, history_of}}
@@ -16,9 +16,9 @@ use Rattle.vs_page.{specs.declared.log.LogEntry.TheVariants.GotPacket, proofs.{F
 use Rattle.vs_proxy_parts.specs.{Handshakes.{with_line, without_stream}, State.Handshake}
 use Rattle.vs_uds.specs.{OkLine.ok_text, Reading.is_decided, declared.connect.TheConstants.CONNECT_MAX}
 use Rattle.laws_tables.{specs.{Drains.Drains, Ends.{AreDistinct, is_among}, Steps.port_after}, proofs.Adding.{got_nothing, put_over_got}}
-use Rattle.laws_device.specs.Carried.Streamed.{AreCounted, AreLines, AreStreamed, CountMatches, IsStreamed, Ports, Seen, connection_of, count_in, has_line, line_for, look, reading}
+use Rattle.laws_device.specs.Carried.Streamed.{Serving, heard_at, serves, AreCounted, AreLines, AreStreamed, CountMatches, IsStreamed, Ports, Seen, connection_of, count_in, has_line, line_for, look, reading}
 use Rattle.laws_device.{specs.Carried.Streamed.{seen, seen_as}, proofs.Carried.Hosts.{changed_seen, counts_still, counts_then, here_then, new_there, none_there, others_seen}}
-use Rattle.laws_device.proofs.Carried.{Hosts.{others_then, none_labelled, others_there, there}, HostCalls.{closed_host, some_seen}, Counted.{IsAsked, counted_got, kept_less}}
+use Rattle.laws_device.proofs.Carried.{Hosts.{others_then, none_labelled, others_there, there}, HostCalls.{closed_host, some_seen}, Counted.{IsAsked, counted_on, fewer_served, kept_less, slot_served}}
 use Rattle.laws_device.proofs.Carried.{Counted.{number_elsewhere, request_asks}, Streamed.{one_streamed, opened_streamed, recounted}, Hands.{with_all, with_apart, without_all}}
 use Rattle.laws_device.proofs.{Carried.Hands.{without_none, without_pairs}, Clean.{port_below, port_rises, removed_among, removed_own}}
 use Rattle.vs_header.specs.declared.Kind.TheVariants as kind
@@ -92,6 +92,7 @@ other_lines c log port t hands lines x reads = record {
     unique = x.streams.unique;
     every = x.streams.every;
     listed = x.streams.listed;
+    slots = x.streams.slots;
     counted = x.streams.counted;
     none = x.streams.none;
     waiting = x.streams.waiting;
@@ -142,8 +143,8 @@ module _ (c : HostContents) (log : Log) (port : Ports) (t : Table DeviceConnecti
 
   goes_with : (lines : List Handshake) → AreLines (look read_on) lines → IsStreamed read_on log port t lines
   goes_with lines reads =
-      recounted (look read_on) c.labelled (count_in c) (count_in read_on) log port t lines (counts_still id (take_bytes n) (called c) (λ y. refl))
-      (one_streamed (look c) (look read_on) c.labelled (count_in c) log port t hands lines x id (reading (h.line ++ bytes)) line_now refl refl
+      recounted (look read_on) c.labelled (count_in c) (count_in read_on) log (heard_at c port) t lines (counts_still id (take_bytes n) (called c) (λ y. refl))
+      (one_streamed (look c) (look read_on) c.labelled (count_in c) log (heard_at c port) t hands lines x id (reading (h.line ++ bytes)) line_now refl refl
       (λ b is. ap (λ (s : Seen). s.label) (sym (some_seen (reading h.line) b (sym hand.there ∙ is)))) others_now reads)
 
   pub line_more : is_decided CONNECT_MAX (h.line ++ bytes) ≡ false → IsStreamed read_on log port t (with_line id (h.line ++ bytes) hands)
@@ -190,13 +191,21 @@ none_apart t f none i e within same =
     let fails = none_found (λ (y : DeviceEntry). same_flow f y.flow) t.entries none i e within in
     let both : true ≡ false = sym (same_self f) ∙ ap (λ (g : Flow). same_flow f g) (sym same) ∙ fails in absurd cc
 
+-- One more slot is given, and one more stream gets a label.
+one_slot : (labelled : List ℕ) (id : ℕ) (v : Serving) → (v.room ≡ DEVICE_CONNECTIONS) × (v.given ≤ length labelled)
+    → (v.room ≡ DEVICE_CONNECTIONS) × (v.given + 1 ≤ length (labelled ++ id ∷ []))
+one_slot labelled id v slots = let long = length-append labelled (id ∷ []) in let most = slots.1 in (slots.0, omega (arith, long, most))
+
+abbrev pub next_slot : Ports → Ports
+next_slot port = record port { serving = record port.serving { given = port.serving.given + 1 } }
+
 -- LABEL: a whole line opens a connection.
 module _ (c : HostContents) (log : Log) (port : Ports) (t : Table DeviceConnection) (lines : List Handshake) (x : IsStreamed c log port t lines)
     (id : ℕ) (f : Flow) (line : List ℕ) (here : look c id ≡ Some (reading line)) (away : All (λ h. h.stream ≢ id) lines)
     (whole : has_line line ≡ true) (none_behind : after_line line ≡ []) (inside : host_asks f ≡ true) (sound : IsTable t)
     (alone : entry_of t f ≡ None) (given : (port.next ≤ f.host) ⊎ (is_among f port.clean ≡ true)) (once : AreDistinct port.clean) where
   abbrev after : Ports
-  after = record { next = port_after port.next f.host; clean = without_oldest (same_flow f) port.clean }
+  after = record (next_slot port) { next = port_after port.next f.host; clean = without_oldest (same_flow f) port.clean }
 
   abbrev labelled_now : HostContents
   labelled_now = after_label id f c
@@ -249,9 +258,10 @@ module _ (c : HostContents) (log : Log) (port : Ports) (t : Table DeviceConnecti
   all_asked : count_in c f ≡ number_of Device f log
   all_asked = by given
     where
-      counted_inside : CountMatches true (count_in c f) (number_of Device f log) (is_among f port.clean) (has is_clean_rst (puts (history_of Device f log)))
+      counted_inside : CountMatches true (count_in c f) (number_of Device f log) (is_among f port.clean)
+          (has is_clean_rst (puts (history_of Device f log)) || serves (heard_at c port).serving log f)
       counted_inside = subst (λ (b : Bool). CountMatches b (count_in c f) (number_of Device f log) (is_among f port.clean)
-          (has is_clean_rst (puts (history_of Device f log)))) inside (x.streams.counted f)
+          (has is_clean_rst (puts (history_of Device f log)) || serves (heard_at c port).serving log f)) inside (x.streams.counted f)
 
       by : (port.next ≤ f.host) ⊎ (is_among f port.clean ≡ true) → count_in c f ≡ number_of Device f log
       by (inl fresh) =
@@ -264,35 +274,39 @@ module _ (c : HostContents) (log : Log) (port : Ports) (t : Table DeviceConnecti
   fresh_label : (j : ℕ) (u : Seen) → look c j ≡ Some u → u.label ≢ Some first
   fresh_label j u is on = let most = (x.streams.labels j u first is on).most in absurd (omega (arith, most))
 
-  label_counted : (g : Flow) → AreCounted (count_in c) port.clean log g → AreCounted (count_in labelled_now) after.clean log g
+  label_counted : (g : Flow) → AreCounted (count_in c) (heard_at c port) log g → AreCounted (count_in labelled_now) (heard_at c after) log g
   label_counted g old = by (same_flow g f) refl (counts g)
     where
       own : host_asks g ≡ true → count_in c g ≡ number_of Device g log → is_among g after.clean ≡ false
-          → count_in labelled_now g ≡ count_in c g + 1 → AreCounted (count_in labelled_now) after.clean log g
+          → count_in labelled_now g ≡ count_in c g + 1 → AreCounted (count_in labelled_now) (heard_at c after) log g
       own assigned all none more = subst (λ (b : Bool). CountMatches b (count_in labelled_now g) (number_of Device g log) (is_among g after.clean)
-          (has is_clean_rst (puts (history_of Device g log))))
+          (has is_clean_rst (puts (history_of Device g log)) || serves (heard_at c after).serving log g))
           (sym assigned) (omega (arith, more, all), omega (arith, more, all), λ is. let both : true ≡ false = sym is ∙ none in absurd cc)
 
       by : (b : Bool) → same_flow g f ≡ b → count_in labelled_now g ≡ cond b (count_in c g + 1) (count_in c g)
-          → AreCounted (count_in labelled_now) after.clean log g
+          → AreCounted (count_in labelled_now) (heard_at c after) log g
       by true same more =
           let is : f ≡ g = sym (same_flow_true g f same) in
           own (subst (λ (h : Flow). host_asks h ≡ true) is inside) (subst (λ (h : Flow). count_in c h ≡ number_of Device h log) is all_asked)
           (subst (λ (h : Flow). is_among h after.clean ≡ false) is (removed_own f port.clean once)) more
-      by false other stays = subst (λ (n : ℕ). AreCounted (λ h. n) after.clean log g) (sym stays)
+      by false other stays = subst (λ (n : ℕ). AreCounted (λ h. n) (heard_at c after) log g) (sym stays)
           (kept_less (host_asks g) (count_in c g) (number_of Device g log) (is_among g port.clean) (is_among g after.clean)
-          (has is_clean_rst (puts (history_of Device g log))) (removed_among f g port.clean) old)
+          (has is_clean_rst (puts (history_of Device g log))) (serves (heard_at c port).serving log g) (serves (heard_at c after).serving log g)
+          (removed_among f g port.clean) (slot_served (heard_at c port).serving log g) old)
+
+  slots_now : (port.serving.room ≡ DEVICE_CONNECTIONS) × (port.serving.given + 1 ≤ length (c.labelled ++ id ∷ []))
+  slots_now = one_slot c.labelled id port.serving x.streams.slots
 
   pub label_host : IsStreamed labelled_now log after (with_entry t f (new_connection (asked kind.Stream BUF_ALLOC) id true)) lines
   label_host =
       let none : payload_put Device first log ≡ [] = x.streams.none first fresh_label in
-      subst (λ (ids : List ℕ). AreStreamed (look labelled_now) ids (count_in labelled_now) log after
+      subst (λ (ids : List ℕ). AreStreamed (look labelled_now) ids (count_in labelled_now) log (heard_at c after)
       (with_entry t f (new_connection (asked kind.Stream BUF_ALLOC) id true)) lines)
       (sym list_is)
-      (opened_streamed (look c) (look labelled_now) c.labelled (count_in c) (count_in labelled_now) log log port after t lines lines x id
+      (opened_streamed (look c) (look labelled_now) c.labelled (count_in c) (count_in labelled_now) log log (heard_at c port) (heard_at c after) t lines lines x id
       (record (reading line) { label = Some first }) first
       (new_connection (asked kind.Stream BUF_ALLOC) id true) label_seen refl refl others_labelled free (port_rises port.next f.host) counts refl (λ g. refl) (λ g. refl)
-      (none_apart t f alone) (λ g other. refl) label_counted sound refl refl
+      (none_apart t f alone) (λ g other. refl) slots_now label_counted sound refl refl
       (record {
         some = omega arith;
         most = omega (arith, own_count);
@@ -341,7 +355,7 @@ module _ (c : HostContents) (log : Log) (port : Ports) (t : Table DeviceConnecti
   dialed_now = after_dial g (dialed.Stream new_id) c
 
   asked_then : IsAsked (count_in c) log p
-  asked_then = request_asks p log (count_in c) port.clean fair asks (x.streams.counted g)
+  asked_then = request_asks p log (count_in c) (heard_at c port) fair asks (x.streams.counted g)
 
   nothing_before : (b : Seen) → look c new_id ≡ Some b → b.label ≡ None
   nothing_before b is = let both : None ≡ Some b = sym (ap (option_map (seen c new_id)) (none_there new_stream c)) ∙ is in absurd cc
@@ -384,33 +398,35 @@ module _ (c : HostContents) (log : Log) (port : Ports) (t : Table DeviceConnecti
       ∙ ap (λ (b : Bool). payload_of (gots (cond b (Got p ∷ []) (Got p ∷ history_of Device g log)))) asks
       ∙ empty
 
-  dial_counted : (f : Flow) → AreCounted (count_in c) port.clean log f → AreCounted (count_in dialed_now) port.clean new f
+  dial_counted : (f : Flow) → AreCounted (count_in c) (heard_at c port) log f → AreCounted (count_in dialed_now) (heard_at c (next_slot port)) new f
   dial_counted f old = by (same_flow f g) refl (dial_counts f)
     where
-      own : host_asks f ≡ false → count_in dialed_now f ≡ number_of Device f new → AreCounted (count_in dialed_now) port.clean new f
+      own : host_asks f ≡ false → count_in dialed_now f ≡ number_of Device f new → AreCounted (count_in dialed_now) (heard_at c (next_slot port)) new f
       own guest all = subst (λ (b : Bool). CountMatches b (count_in dialed_now f) (number_of Device f new) (is_among f port.clean)
-          (has is_clean_rst (puts (history_of Device f new))))
+          (has is_clean_rst (puts (history_of Device f new)) || serves (heard_at c (next_slot port)).serving new f))
           (sym guest) (omega (arith, all), λ marked. all)
 
-      by : (b : Bool) → same_flow f g ≡ b → count_in dialed_now f ≡ cond b (count_in c f + 1) (count_in c f) → AreCounted (count_in dialed_now) port.clean new f
+      by : (b : Bool) → same_flow f g ≡ b → count_in dialed_now f ≡ cond b (count_in c f + 1) (count_in c f) → AreCounted (count_in dialed_now) (heard_at c (next_slot port)) new f
       by true same more =
           let is : g ≡ f = sym (same_flow_true f g same) in
           own (subst (λ (h : Flow). host_asks h ≡ false) is asked_then.guest)
           (more ∙ subst (λ (h : Flow). count_in c h + 1 ≡ number_of Device h new) is number_now)
-      by false other stays = subst (λ (n : ℕ). AreCounted (λ h. n) port.clean new f) (sym stays) (counted_got p log (count_in c) port.clean f old)
+      by false other stays = subst (λ (n : ℕ). AreCounted (λ h. n) (heard_at c (next_slot port)) new f) (sym stays)
+          (fewer_served (count_in c) (heard_at c port) (heard_at c (next_slot port)) new f refl (slot_served (heard_at c port).serving new f)
+          (counted_on p log (count_in c) (heard_at c port) f (λ own. let both : true ≡ false = sym own ∙ other in absurd cc) old))
 
   no_first_line : line_for g ≡ []
   no_first_line = ap (λ (b : Bool). cond b (ok_text g.host) []) asked_then.guest
 
-  pub dial_host : (h : Header) → IsStreamed dialed_now new port (with_entry t g (new_connection (answering kind.Stream BUF_ALLOC h) new_id false)) hands
+  pub dial_host : (h : Header) → IsStreamed dialed_now new (next_slot port) (with_entry t g (new_connection (answering kind.Stream BUF_ALLOC h) new_id false)) hands
   dial_host h =
       let none_put : payload_put Device next_one new ≡ [] = put_over_got Device p log next_one ∙ x.streams.none next_one fresh_dial in
       let all : line_for g ++ payload_got Device next_one new ≡ [] = ap (λ (bytes : List ℕ). bytes ++ payload_got Device next_one new) no_first_line ∙ nothing_came in
-      opened_streamed (look c) (look dialed_now) c.labelled (count_in c) (count_in dialed_now) log new port port t hands hands x new_id
+      opened_streamed (look c) (look dialed_now) c.labelled (count_in c) (count_in dialed_now) log new (heard_at c port) (heard_at c (next_slot port)) t hands hands x new_id
       (seen_as (Some next_one) (dialed_stream g c.prepared)) next_one
       (new_connection (answering kind.Stream BUF_ALLOC h) new_id false) dialed_seen refl refl others_dialed nothing_before
       (omega arith) dial_counts refl (λ d. sym (put_over_got Device p log d)) (got_nothing Device p log empty) (none_apart t g alone)
-      (number_elsewhere p log) dial_counted sound refl refl
+      (number_elsewhere p log) (one_slot c.labelled new_id port.serving x.streams.slots) dial_counted sound refl refl
       (record {
         some = omega arith;
         most = omega (arith, dial_count);

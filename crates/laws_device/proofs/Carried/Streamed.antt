@@ -1,8 +1,9 @@
 -- What the host's streams took and gave, through each change of them.
-use Rattle.std.proofs.Common.{◌≡◌, ◌≢◌, ℕ, ◌+◌, ◌≤◌, ◌==◌, Bool, true, false, cond, List, [], ◌∷◌, ◌++◌, get_or, Contains, Option, Some, None, refl, sym, ap, subst, ◌∙◌}
+use Rattle.std.proofs.Common.{◌≡◌, ◌≢◌, ℕ, ◌+◌, ◌≤◌, ◌==◌, Bool, true, false, cond, List, [], ◌∷◌, ◌++◌, length, get_or, Contains, Option, Some, None, refl, sym, ap, subst, ◌∙◌}
 use Rattle.std.proofs.{Common.{append_assoc, arith, ◌⊎◌, inl, inr}, lemmas.List.{Elements.{All-contains, All-push, All-weaker, Contains-push_cases}, append-nil}}
 use Rattle.std.{proofs.lemmas.Bool.Decides.nat_tests, specs.List.All}
 use Rattle.vs_conn.specs.declared.end.State.TheVariants.{Asked}
+use Rattle.vs_limits.specs.declared.TheConstants.{DEVICE_CONNECTIONS}
 use Rattle.vs_device_parts.specs.State.{DeviceConnection, DeviceEntry}
 use Rattle.vs_flow.specs.{Table.{IsTable, Table, next_entry, with_entry, with_value, without}, Connection.Connection, Flow.same_flow, declared.flow.Flow.Flow}
 use Rattle.vs_flow.proofs.Entries.{same_flow_false, same_flow_true}
@@ -36,10 +37,10 @@ pub record StaysStill (count : Flow → ℕ) (log new : Log) : Type 0 where
   pub put : (c : Connection) → payload_put Device c log ≡ payload_put Device c new
   pub got : (c : Connection) → payload_got Device c log ≡ payload_got Device c new
   pub number : (f : Flow) → number_of Device f log ≡ number_of Device f new
-  pub counted : (kept : List Flow) (f : Flow) → AreCounted count kept log f → AreCounted count kept new f
+  pub counted : (port : Ports) (f : Flow) → AreCounted count port log f → AreCounted count port new f
 
 pub no_entry : (count : Flow → ℕ) (log : Log) → StaysStill count log log
-no_entry count log = record { put = λ c. refl; got = λ c. refl; number = λ f. refl; counted = λ kept f x. x }
+no_entry count log = record { put = λ c. refl; got = λ c. refl; number = λ f. refl; counted = λ port f x. x }
 
 -- A connection keeps its number where its flow does.
 pub same_connection_of : (log new : Log) (e : DeviceEntry) → number_of Device e.flow log ≡ number_of Device e.flow new → connection_of e log ≡ connection_of e new
@@ -104,7 +105,8 @@ module _ (at now : ℕ → Option Seen) (labelled : List ℕ) (count : Flow → 
       every = λ c some most. let u = x.streams.every c some most in (u.0, u.1, sym (same u.0) ∙ u.2, u.3);
       listed = λ id within. let h = x.streams.listed id within in
           record { stream = h.stream; connection = h.connection; there = sym (same id) ∙ h.there; label = h.label };
-      counted = λ f. still.counted port.clean f (x.streams.counted f);
+      slots = x.streams.slots;
+      counted = λ f. still.counted port f (x.streams.counted f);
       none = λ c without. sym (still.put c) ∙ x.streams.none c (λ id s there. without id s (sym (same id) ∙ there));
       waiting = λ id s there. x.streams.waiting id s (same id ∙ there);
       lines = same_lines lines x.streams.lines;
@@ -127,7 +129,8 @@ recounted_labels at labelled count more log port lines same x = record {
   unique = x.unique;
   every = λ c some most. x.every c some (subst (λ (n : ℕ). c.number ≤ n) (sym (same c.flow)) most);
   listed = x.listed;
-  counted = λ f. subst (λ (n : ℕ). AreCounted (λ g. n) port.clean log f) (same f) (x.counted f);
+  slots = x.slots;
+  counted = λ f. subst (λ (n : ℕ). AreCounted (λ g. n) port log f) (same f) (x.counted f);
   none = x.none;
   waiting = x.waiting;
   lines = x.lines;
@@ -176,7 +179,7 @@ module _ (at now : ℕ → Option Seen) (labelled : List ℕ) (count : Flow → 
       (got : (d : Connection) → payload_got Device d new ≡ payload_got Device d log ++ only_on k came d)
       (keeps : connection_of (record e { value = c }) new ≡ k)
       (number : (f : Flow) → f ≢ e.flow → number_of Device f log ≡ number_of Device f new)
-      (counted : (f : Flow) → AreCounted count port.clean log f → AreCounted count port.clean new f)
+      (counted : (f : Flow) → AreCounted count port log f → AreCounted count port new f)
       (drains : Drains (gives c.end) (join.stream.given ++ gave) (c.ok_line ++ c.pending) (line_for e.flow ++ payload_got Device k new))
       (asked : c.end.state ≡ Asked → (join.stream.given ++ gave ≡ []) × (c.ok_line ≡ []) × (c.pending ≡ []) × (c.closed ≡ false))
       (reads : taken_of (after c.closed) ≡ taken_of join.stream ++ more) where
@@ -270,6 +273,7 @@ module _ (at now : ℕ → Option Seen) (labelled : List ℕ) (count : Flow → 
       every = λ d some most. let old = x.streams.every d some most in let u = remains old.0 old.1 d old.2 old.3 in (old.0, u.0, u.1, u.2);
       listed = λ id within. let h = x.streams.listed id within in let u = remains id h.stream h.connection h.there h.label in
           record { stream = u.0; connection = h.connection; there = u.1; label = u.2 };
+      slots = x.streams.slots;
       counted = λ f. counted f (x.streams.counted f);
       none = λ d without.
           let off : d ≢ k = λ same. without e.value.stream (after c.closed) there (join.label ∙ ap (λ (g : Connection). Some g) (sym same)) in
@@ -296,21 +300,22 @@ module _ (at now : ℕ → Option Seen) (labelled : List ℕ) (count : Flow → 
       streams = moved_labels;
     }
 
--- Other flows are kept to be used again.
-pub kept_streamed : (at : ℕ → Option Seen) (labelled : List ℕ) (count : Flow → ℕ) (log : Log) (port : Ports) (t : Table DeviceConnection) (lines : List Handshake)
-    → AreStreamed at labelled count log port t lines → (clean : List Flow)
-    → ((f : Flow) → AreCounted count port.clean log f → AreCounted count clean log f)
-    → AreStreamed at labelled count log (record port { clean = clean }) t lines
-kept_streamed at labelled count log port t lines x clean counted = record {
+-- Other flows are kept to be used again, or fewer are served.
+pub kept_streamed : (at : ℕ → Option Seen) (labelled : List ℕ) (count : Flow → ℕ) (log : Log) (port next : Ports) (t : Table DeviceConnection) (lines : List Handshake)
+    → AreStreamed at labelled count log port t lines → port.next ≡ next.next
+    → (next.serving.room ≡ DEVICE_CONNECTIONS) × (next.serving.given ≤ length labelled)
+    → ((f : Flow) → AreCounted count port log f → AreCounted count next log f) → AreStreamed at labelled count log next t lines
+kept_streamed at labelled count log port next t lines x same slots counted = record {
   joined = x.joined;
   tabled = x.tabled;
   streams = record {
     labels = λ id s c seen label.
         let old = x.streams.labels id s c seen label in
-        label_moves s c count log log port (record port { clean = clean }) old refl old.gave (omega arith);
+        label_moves s c count log log port next old refl old.gave (omega (arith, same));
     unique = x.streams.unique;
     every = x.streams.every;
     listed = x.streams.listed;
+    slots = slots;
     counted = λ f. counted f (x.streams.counted f);
     none = x.streams.none;
     waiting = x.streams.waiting;
@@ -343,7 +348,7 @@ pub passed_streamed : (at : ℕ → Option Seen) (labelled : List ℕ) (count : 
     → ((c : Connection) → payload_put Device c log ≡ payload_put Device c new)
     → ((c : Connection) → payload_got Device c new ≡ payload_got Device c log ++ only_on on came c)
     → All (λ e. number_of Device e.flow log ≡ number_of Device e.flow new) t.entries
-    → ((f : Flow) → AreCounted count port.clean log f → AreCounted count port.clean new f)
+    → ((f : Flow) → AreCounted count port log f → AreCounted count port new f)
     → All (λ e. e.flow ≡ on.flow → gives e.value.end ≡ true → came ≡ []) t.entries
     → AreStreamed at labelled count new port t lines
 passed_streamed at labelled count log new port t lines x on came put got number counted idle = record {
@@ -356,6 +361,7 @@ passed_streamed at labelled count log new port t lines x on came put got number 
     unique = x.streams.unique;
     every = x.streams.every;
     listed = x.streams.listed;
+    slots = x.streams.slots;
     counted = λ f. counted f (x.streams.counted f);
     none = λ c without. sym (put c) ∙ x.streams.none c without;
     waiting = x.streams.waiting;
@@ -410,7 +416,7 @@ module _ (at now : ℕ → Option Seen) (labelled : List ℕ) (count : Flow → 
       → ((d : Connection) → payload_got Device d new ≡ payload_got Device d log ++ only_on (connection_of e log) came d)
       → connection_of (record e { value = c }) new ≡ connection_of e log
       → ((f : Flow) → f ≢ e.flow → number_of Device f log ≡ number_of Device f new)
-      → ((f : Flow) → AreCounted count port.clean log f → AreCounted count port.clean new f)
+      → ((f : Flow) → AreCounted count port log f → AreCounted count port new f)
       → Drains (gives c.end) joined_here.stream.given (c.ok_line ++ c.pending) (line_for e.flow ++ payload_got Device (connection_of e log) new)
       → (c.end.state ≡ Asked → (joined_here.stream.given ≡ []) × (c.ok_line ≡ []) × (c.pending ≡ []) × (c.closed ≡ false))
       → AreStreamed now labelled count new port (with_value t e.slot c) lines
@@ -445,7 +451,8 @@ module _ (at now : ℕ → Option Seen) (labelled : List ℕ) (count more : Flow
     (grows : (f : Flow) → more f ≡ cond (same_flow f k.flow) (count f + 1) (count f)) (last : k.number ≡ count k.flow + 1)
     (put : (d : Connection) → payload_put Device d log ≡ payload_put Device d new) (got : (d : Connection) → payload_got Device d log ≡ payload_got Device d new)
     (apart : All (λ e. e.flow ≢ k.flow) t.entries) (number : (f : Flow) → f ≢ k.flow → number_of Device f log ≡ number_of Device f new)
-    (counted : (f : Flow) → AreCounted count port.clean log f → AreCounted more next.clean new f) where
+    (slots : (next.serving.room ≡ DEVICE_CONNECTIONS) × (next.serving.given ≤ length (labelled ++ id ∷ [])))
+    (counted : (f : Flow) → AreCounted count port log f → AreCounted more next new f) where
   rises : (f : Flow) → count f ≤ more f
   rises f = by (same_flow f k.flow) (grows f)
     where
@@ -556,6 +563,7 @@ module _ (at now : ℕ → Option Seen) (labelled : List ℕ) (count more : Flow
           (λ other. x.streams.unique i j u v d (others i off ∙ a) (others j other ∙ b) p q));
       every = every_one;
       listed = λ j within. listed_then j (Contains-push_cases labelled id j within);
+      slots = slots;
       counted = λ f. counted f (x.streams.counted f);
       none = λ d without. sym (put d) ∙ x.streams.none d (λ j u seen on. without j u (kept_there j u d seen on) on);
       waiting = λ j u seen waits. is_or_not j id (u ≡ client_waits) (λ place.
@@ -592,6 +600,7 @@ module _ (at now : ℕ → Option Seen) (labelled : List ℕ) (count : Flow → 
       every = λ d some most. let u = x.streams.every d some most in (u.0, u.1, kept u.0 u.1 d u.2 u.3, u.3);
       listed = λ j within. let h = x.streams.listed j within in
           record { stream = h.stream; connection = h.connection; there = kept j h.stream h.connection h.there h.label; label = h.label };
+      slots = x.streams.slots;
       counted = x.streams.counted;
       none = λ d without. x.streams.none d (λ j u seen on. without j u (kept j u d seen on) on);
       waiting = λ j u seen waits. by j u waits (back j u seen).0 (back j u seen).1 (back j u seen).2;

@@ -1,16 +1,18 @@
 -- What the host's streams took and gave, against the packets of their connections.
-use Rattle.std.specs.Prelude.{◌≡◌, ◌≢◌, ℕ, ◌+◌, ◌<◌, ◌≤◌, ◌++◌, ◌==◌, not, Bool, true, false, if◌then◌else◌, List, [], Option, Some, None, AllPairs, Contains, length, position}
-use Rattle.std.specs.{List.{All, list_any}, Option.{option_map, option_map_or}}
-use Rattle.vs_conn.specs.{End.ConnectionEnd, declared.end.State.{State, TheVariants.{Answering, Asked, Live}}}
+use Rattle.std.specs.Prelude.{◌≡◌, ◌≢◌, ℕ, ◌+◌, ◌<◌, ◌≤◌, ◌++◌, ◌==◌, ◌&&◌, ◌||◌, nat_lt, not, Bool, true, false, if◌then◌else◌, List, [], ◌∷◌, Option, Some, None, AllPairs, Contains, length, position}
+use Rattle.std.specs.{List.{All, list_any}, Option.{option_map, option_map_or}, Str.bytes_eq}
+use Rattle.vs_conn.specs.{End.{ConnectionEnd, is_of}, declared.end.State.{State, TheVariants.{Answering, Asked, Live}}}
 use Rattle.vs_device_parts.specs.State.{DeviceConnection, DeviceEntry, DeviceState}
 use Rattle.vs_flow.specs.{Connection.Connection, Flow.host_asks, Table.Table, declared.flow.Flow.Flow}
 use Rattle.vs_outside.specs.{Host.{HostContents, Stream, stream_at, waits}, HostBytes.{after_line, labelled_with}, HostProgram.is_closed}
 use Rattle.laws_device.specs.Named.Streams.{stream_under}
-use Rattle.vs_uds.specs.{declared.{scan.TheConstants.LF, connect.TheConstants.CONNECT_MAX}, OkLine.ok_text, Reading.is_decided}
-use Rattle.vs_page.specs.{Fair.{IsPrefixOf, number_of, payload_got, payload_put}, Log.{Device, Log, history_of}}
+use Rattle.vs_uds.specs.{declared.{scan.TheConstants.LF, connect.TheConstants.CONNECT_MAX}, OkLine.ok_text, Path.path_of, Reading.is_decided}
+use Rattle.vs_limits.specs.declared.TheConstants.{DEVICE_CONNECTIONS}
+use Rattle.vs_page.specs.{Fair.{IsPrefixOf, number_of, payload_got, payload_put}, Log.{Device, Log, history_of}, declared.log.LogEntry.TheVariants.GotPacket}
 use Rattle.vs_proxy_parts.specs.State.{Handshake}
-use Rattle.laws_history.specs.{History.puts, Packets.{has, is_clean_rst}}
+use Rattle.laws_history.specs.{History.puts, Packets.{has, is_clean_rst, is_request}}
 use Rattle.laws_tables.specs.{Drains.Drains, Ends.{is_among, is_new}}
+use Rattle.vs_header.specs.declared.Kind.TheVariants as kind
 
 -- What counts of a stream: the connection that it is by its label, who made it, whether it waits to be accepted, whether the proxy closed
 -- it, and the bytes that the proxy took of it and gave it.
@@ -79,13 +81,47 @@ gives e = gives_in e.state e.own.receive
 abbrev pub connection_of : DeviceEntry → Log → Connection
 connection_of e log = let n = number_of Device e.flow log in record { flow = e.flow; number = if is_new e.value.end then n + 1 else n }
 
+-- What a REQUEST of the guest needs for a stream: a listener of the host at the path of its port, a slot, and that no packet was dropped and no call on
+-- the host failed. A table that gave as many slots as it has room may have been full. Where listeners come and go nothing is said.
+pub record Serving : Type 0 where
+  pub base : List ℕ
+  pub listening : List (List ℕ)
+  pub room : ℕ
+  pub given : ℕ
+  pub lost : Bool
+
+abbrev pub serving_of : Bool → DeviceState → Serving
+serving_of stay s = record {
+  base = s.base;
+  listening = [];
+  room = s.table.room;
+  given = s.table.given;
+  lost = not stay || (not (s.faults == 0) || not (s.dropped == 0));
+}
+
 -- The host ports that may be given: those from this one on, and those of flows that may be used again.
 pub record Ports : Type 0 where
   pub next : ℕ
   pub clean : List Flow
+  pub serving : Serving
 
-abbrev pub ports_of : ℕ → DeviceState → Ports
-ports_of port s = record { next = port; clean = s.clean }
+abbrev pub ports_of : Bool → ℕ → DeviceState → Ports
+ports_of stay port s = record { next = port; clean = s.clean; serving = serving_of stay s }
+
+abbrev pub heard_at : HostContents → Ports → Ports
+heard_at c port = record port { serving = record port.serving { listening = c.listening } }
+
+-- All REQUESTs that came are of type stream; and each one that came on a flow had what it needs.
+abbrev pub asks_streams : Log → Bool
+asks_streams [] = true
+asks_streams (GotPacket p ∷ log) = (not (is_request p) || is_of kind.Stream p.header) && asks_streams log
+asks_streams (_ ∷ log) = asks_streams log
+
+abbrev pub is_heard : Serving → Flow → Bool
+is_heard v f = list_any (λ p. bytes_eq p (path_of v.base f.host)) v.listening
+
+abbrev pub serves : Serving → Log → Flow → Bool
+serves v log f = is_heard v f && (nat_lt v.given v.room && (not v.lost && asks_streams log))
 
 -- A stream with a label: the payload put on its connection was taken of it, and it was given a prefix of its OK line and the payload got
 -- there. Its number is one of those that its flow's streams have.
@@ -120,14 +156,15 @@ pub record AreLines (at : ℕ → Option Seen) (lines : List Handshake) : Type 0
 -- How many streams have a flow as label, against the REQUESTs on it. On a flow whose port the proxy assigned no REQUEST is put without a
 -- stream, and the newest stream may lack one; where the flow is kept to be used again, each stream has one. On any other flow a REQUEST that is
 -- dropped or refused gets no stream, and none follows it: so each REQUEST has one, where the device put a marked RST on the present connection,
--- and another REQUEST may come.
+-- and another REQUEST may come; and where each had what it needs.
 abbrev pub CountMatches : Bool → ℕ → ℕ → Bool → Bool → Type 0
 CountMatches true count number kept marked = (number ≤ count) × (count ≤ number + 1) × (kept ≡ true → count ≡ number)
 CountMatches false count number kept marked = (count ≤ number) × (marked ≡ true → count ≡ number)
 
-abbrev pub AreCounted : (Flow → ℕ) → List Flow → Log → Flow → Type 0
-AreCounted count clean log f =
-    CountMatches (host_asks f) (count f) (number_of Device f log) (is_among f clean) (has is_clean_rst (puts (history_of Device f log)))
+abbrev pub AreCounted : (Flow → ℕ) → Ports → Log → Flow → Type 0
+AreCounted count port log f =
+    CountMatches (host_asks f) (count f) (number_of Device f log) (is_among f port.clean)
+    (has is_clean_rst (puts (history_of Device f log)) || serves port.serving log f)
 
 -- A stream that has a label.
 pub record HasLabel (at : ℕ → Option Seen) (id : ℕ) : Type 0 where
@@ -137,7 +174,7 @@ pub record HasLabel (at : ℕ → Option Seen) (id : ℕ) : Type 0 where
   pub label : stream.label ≡ Some connection
 
 -- No two streams are of one connection, the streams with a flow as label have all numbers up to their count, and each id that is listed is
--- that of a stream with a label. On a connection without a stream no payload was put.
+-- that of a stream with a label, of which there are as many as slots that were given. On a connection without a stream no payload was put.
 pub record AreLabelled (at : ℕ → Option Seen) (labelled : List ℕ) (count : Flow → ℕ) (log : Log) (port : Ports) (hands : List Handshake)
     : Type 0 where
   pub labels : (id : ℕ) (s : Seen) (c : Connection) → at id ≡ Some s → s.label ≡ Some c → IsLabelled s c count log port
@@ -145,7 +182,8 @@ pub record AreLabelled (at : ℕ → Option Seen) (labelled : List ℕ) (count :
       → i ≡ j
   pub every : (c : Connection) → 1 ≤ c.number → c.number ≤ count c.flow → (id : ℕ) × (s : Seen) × (at id ≡ Some s) × (s.label ≡ Some c)
   pub listed : (id : ℕ) → Contains labelled id → HasLabel at id
-  pub counted : (f : Flow) → AreCounted count port.clean log f
+  pub slots : (port.serving.room ≡ DEVICE_CONNECTIONS) × (port.serving.given ≤ length labelled)
+  pub counted : (f : Flow) → AreCounted count port log f
   pub none : (c : Connection) → ((id : ℕ) (s : Seen) → at id ≡ Some s → s.label ≢ Some c) → payload_put Device c log ≡ []
   pub waiting : (id : ℕ) (s : Seen) → at id ≡ Some s → s.waiting ≡ true → s ≡ client_waits
   pub lines : AreLines at hands
@@ -159,4 +197,4 @@ pub record AreStreamed (at : ℕ → Option Seen) (labelled : List ℕ) (count :
   pub streams : AreLabelled at labelled count log port hands
 
 abbrev pub IsStreamed : HostContents → Log → Ports → Table DeviceConnection → List Handshake → Type 0
-IsStreamed c log port table lines = AreStreamed (look c) c.labelled (count_in c) log port table lines
+IsStreamed c log port table lines = AreStreamed (look c) c.labelled (count_in c) log (heard_at c port) table lines
