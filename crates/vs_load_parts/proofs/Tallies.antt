@@ -1,5 +1,5 @@
 -- How the counts of a load add up, and how matches do.
-use Rattle.std.proofs.{Common.{◌≡◌, ℕ, ◌+◌, ◌==◌, ◌^◌, min, if◌then◌else◌, List, [], ◌∷◌, ◌++◌, length, refl, sym, ap, ◌∙◌, arith}, lemmas.List.Elements.{All-head, All-tail}}
+use Rattle.std.proofs.{Common.{◌≡◌, ℕ, ◌+◌, ◌-◌, ◌^◌, min, List, [], ◌∷◌, ◌++◌, length, refl, sym, ap, ◌∙◌, arith}, lemmas.List.Elements.{All-head, All-tail}}
 use Rattle.std.{proofs.lemmas.{List.{flat_map_more, Sums.fold-append}, Bool.Decides.nat_tests}, specs.List.{All, flat_map, fold}}
 use Rattle.laws_driver.specs.Carried.Calls.{Journal, received_by}
 use Rattle.vs_apps_parts.specs.{Journals.{calls_of, sent_as}, Scripts.RunScript, declared.journal.Entry.Entry}
@@ -41,7 +41,7 @@ one_more journal t new o sent e count came all matched =
     let one : new.sent ≡ capped (t.sent + length (sent_as o.id journal)) =
     all ∙ ap (λ (n : ℕ). capped (t.sent + n)) count ∙ capped_more t.sent (length (sent_as o.id journal)) in
     let two : new.matched ≡ capped (t.matched + length (received_by o.id journal)) = matched ∙ ap (λ (x : Excerpt). capped (t.matched + x.count)) came in
-    cc
+    λ i. record { sent = one i; matched = two i }
 
 -- The parts of one more.
 pub fold_next : {A B X : Type 0} (f : B → A → B) (g : X → List A) (a mid new : B) (xs xs' : List X) (x : X) → xs' ≡ xs ++ x ∷ []
