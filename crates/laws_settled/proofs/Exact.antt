@@ -22,7 +22,8 @@ use Rattle.laws_device.{specs.{Honest.HoldsBytes, Walk.Seen.Seen}, proofs.{Ringi
 use Rattle.laws_device.proofs.{Named.Keeping.{asking, keeps_end}, Walk.{Keeping.{Asking, Keeps, keeps_if, keeps_some, keeps_then}, Serving.{AfterRead, AfterWrite, Closes, Fills}}}
 use Rattle.laws_device.proofs.Walk.{Serving.{IsIn, Writes, by_flow, keeps_fill_rx, keeps_leaving, keeps_pay_event, keeps_pump, keeps_tick}, Turning.{AfterAccept, AfterByte}}
 use Rattle.laws_device.proofs.Walk.Turning.{Between, Ends, Shakes, keeps_turn_by}
-use Rattle.laws_rest.{specs.Pending.{IsExact, delivered}, proofs.Unread.{hears, pays, shuts, writes}}
+use Rattle.laws_tables.specs.Drains.{delivered}
+use Rattle.laws_rest.{specs.Pending.IsExact, proofs.Unread.{hears, pays, shuts, writes}}
 use Rattle.laws_settled.specs.Exact.{AreExact, HoldsExactly}
 use Rattle.vs_conn.specs.declared.end.Verdict.TheVariants as verdict
 use Rattle.vs_conn.specs.declared.end.Why.TheVariants as why
@@ -32,7 +33,6 @@ use Rattle.vs_outside.specs.declared.host_net.StreamRead.TheVariants as read
 use Rattle.vs_outside.specs.declared.host_net.StreamWrite.TheVariants as write
 use Rattle.vs_ring_port.specs.declared.device_ring.Next.TheVariants as next
 use Rattle.vs_device_parts.specs.declared.answers.Taken.TheVariants as taken
-use Rattle.laws_device.proofs.Fits as fits
 use Rattle.laws_device.proofs.Walk.Serving as serving
 
 -- CONNECTIONS
@@ -89,7 +89,7 @@ delivers_hold c h payload is len held =
     let both = length-append c.pending payload in
     record {
       bytes = fewer (end_after c.end h).credit (length c.pending + h.len) (length (c.pending ++ payload))
-          (subst (λ (v : Verdict). HoldsBytes (end_after c.end h).credit (length c.pending + fits.delivered v h.len)) is
+          (subst (λ (v : Verdict). HoldsBytes (end_after c.end h).credit (length c.pending + delivered v h.len)) is
           (fits_after c.end h (length c.pending) held.bytes)) (omega (arith, both, len));
       exact = hears c h payload held.bytes (len ∙ ap (λ (v : Verdict). delivered v h.len) (sym is)) held.exact;
     }
