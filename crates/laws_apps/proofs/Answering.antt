@@ -24,6 +24,7 @@ use Rattle.laws_tables.specs.Steps.{is_kept}
 use Rattle.vs_driver_parts.specs.Connections.{keeping}
 use Rattle.laws_driver.specs.{Honest.{IsFresh, IsHonestWith}, Carried.Calls.{Accept, Close, Connect, Grow, GuestCall, Journal, Listen, LookAt, Made, Recv, ReplyTo, Send, Shutdown}}
 use Rattle.laws_driver.{specs.Carried.Calls.{Unlisten, is_right, names, whole_call}, proofs.{Calls.new_keeps, Carrying.{Carries, Fact}, Keeping.keeps_end, Polling.poll_keeps}}
+use Rattle.laws_driver.proofs.Sighting.{Small, poll_sees}
 use Rattle.laws_driver.proofs.{Staging.Rests, Carried.{Growing.honest_stays, Making.{CarriesCall, whole_with}, Righting.told_before, Sending.begins}}
 use Rattle.laws_rest.proofs.Quiet.{ends_any, ends_then}
 use Rattle.vs_apps_parts.specs.{Journals.made_as, Told.{told_of, wait_of}, declared.journal.{Entry.Entry, WaitsFor.WaitsFor}}
@@ -335,55 +336,20 @@ module _ (journal : Journal) where
       on true = waits_less journal s.next_id s.listeners x e.flow.guest e.value.id
       on false = x
 
-  pays_given : (what : Owed) (e : DriverEntry) (s : DriverState) → At s → At (after_paying what e s)
-  pays_given owed.Rst e s x = leaving_given e s x
-  pays_given what e s x = x
-
-  known_given : (p : Packet) (e : DriverEntry) (s : DriverState) (v : Verdict) → At s → At (after_verdict v p e s)
-  known_given p e s (verdict.Rst why) x = on e.value.unanswered
-    where
-      on : (b : Bool) → At (cond b (waits_no_more e (with_connection e.slot (after_packet (verdict.Rst why) p e.value) (record s { broken = counted s.broken })))
-          (with_connection e.slot (after_packet (verdict.Rst why) p e.value) (record s { broken = counted s.broken })))
-      on true = waits_less journal s.next_id s.listeners x e.flow.guest e.value.id
-      on false = x
-  known_given p e s v x = on (ends_connection v p.header)
-    where
-      on : (b : Bool) → At (cond b (keeping (is_kept Driver e.flow e.value.end p) e.flow (after_leaving (record e { value = after_packet v p e.value }) s))
-          (with_connection e.slot (after_packet v p e.value) s))
-      on true = leaving_given (record e { value = after_packet v p e.value }) s x
-      on false = x
-
-  packet_given : (p : Packet) (s : DriverState) → At s → At (on_packet p s)
-  packet_given p s x = on (is_dropped Driver s.cid p.header)
-    where
-      unknown : (r q : Bool) → At (cond r s (cond q (with_request (flow_to_guest p.header) p.header s) (with_reply (reply_to (flow_to_guest p.header) p.header) s)))
-      unknown true q = x
-      unknown false true = requested journal s.next_id s.listeners x (flow_to_guest p.header).guest
-      unknown false false = x
-
-      heard : (o : Option DriverEntry) → At (elim o as (λ _. DriverState) [ None ↦ on_unknown p s | Some e ↦ on_known p e s ])
-      heard None = unknown (is_reset p.header) (is_request p.header && may_open (flow_to_guest p.header) s)
-      heard (Some e) = known_given p e s (verdict_of e.value.end p.header) x
-
-      on : (b : Bool) → At (cond b s (on_heard p s))
-      on true = x
-      on false = heard (entry_of s.table (flow_to_guest p.header))
-
-  left_given : (es : List DriverEntry) (s : DriverState) → At s → At (all_left es s)
-  left_given [] s x = x
-  left_given (e ∷ es) s x = left_given es (with_reply (reset_reply e) (after_leaving e s)) (leaving_given e s x)
+  small_given : Small (λ port next table gone ls. AreGiven journal next ls)
+  small_given = record {
+    pays = λ what e s stands owes x. x;
+    hears = λ v p e s stands is x. x;
+    leaves = λ e s sound stands x. leaving_given e s x;
+    ends = λ p e s sound stands x. leaving_given (record e { value = after_packet verdict.Peer p e.value }) s x;
+    asks = λ f h s may x. requested journal s.next_id s.listeners x f.guest;
+  }
 
 abbrev gives : Journal → Fact
 gives journal part s log = AreGiven journal s.next_id s.listeners
 
 poll_gives : (first : ℕ) (journal : Journal) → Carries true first (gives journal)
-poll_gives first journal = record {
-  owed = λ what e s log fits stands owes m was fair x. pays_given journal what e s x;
-  reply = λ r rest s log fits is m fair x. x;
-  got = λ p s log fits ports whole m was fair x. packet_given journal p s x;
-  event = λ id s log x. x;
-  reset = λ cid s log less fits x. left_given journal s.table.entries (record s { cid = cid; clean = of_host s.clean }) x;
-}
+poll_gives first journal = poll_sees (λ port next table gone ls. AreGiven journal next ls) (small_given journal) first
 
 -- Why a connect is refused, whatever the ring.
 connect_ends : (port : ℕ) (s : DriverState) → AllEnds (λ (y : DriverState × Result ℕ ConnectError). ConnectTells port y.1 []) (connect_of port s)

@@ -16,6 +16,7 @@ use Rattle.vs_wrap.specs.Wrap.{counted}
 use Rattle.laws_tables.proofs.Slots.{found_by}
 use Rattle.laws_tables.specs.Steps.{is_kept}
 use Rattle.vs_driver_parts.specs.Connections.{keeping}
+use Rattle.laws_driver.proofs.Sighting.{Small, poll_sees}
 use Rattle.laws_driver.{proofs.Carrying.{Carries, Fact}, specs.Carried.Calls.{Journal, Made, Connect, Listen, Unlisten, Accept, Send, Recv, Shutdown, Grow, Close, LookAt}}
 use Rattle.vs_apps_parts.specs.Told.{told_of}
 use Rattle.laws_apps.specs.Traces.{AllTell, AtId, IsClosing, IsDrained, IsStopped, IsTraced, TellsOf, is_shut, is_touched}
@@ -265,8 +266,8 @@ module _ (by journal : Journal) where
       on true y = y
       on false y = y
 
-  pays_traced : (what : Owed) (e : DriverEntry) (s : DriverState) → Contains s.table.entries e → owes_of e.value.end ≡ Some what → At s → At (after_paying what e s)
-  pays_traced owed.Rst e s within owes x = leaving_traced s e x
+  pays_traced : (what : Owed) (e : DriverEntry) (s : DriverState) → Contains s.table.entries e → owes_of e.value.end ≡ Some what → At s
+      → At (with_connection e.slot (paid_connection what e.value) s)
   pays_traced owed.Response e s within owes x =
       value_traced s e.slot (paid_connection owed.Response e.value)
       (comes_as by s.table.entries e (paid_connection owed.Response e.value) within refl refl refl
@@ -276,55 +277,15 @@ module _ (by journal : Journal) where
       (comes_as by s.table.entries e (paid_connection what e.value) within refl (paid_own e.value.end what) refl
       (end_later e.value (paid_of e.value.end what) (paid_over e.value.end what owes) (paid_own e.value.end what) (paid_peer e.value.end what))) x
 
-  known_traced : (p : Packet) (s : DriverState) (e : DriverEntry) (v : Verdict) → Contains s.table.entries e → verdict_of e.value.end p.header ≡ v → At s
-      → At (after_verdict v p e s)
-  known_traced p s e (verdict.Rst why) within is x =
-      on e.value.unanswered (traced_still by s.next_id s.next_id s.table.entries _ (omega arith)
-      (value_comes by s.next_id s.table.entries e.slot _ (packet_comes by s.table.entries e (verdict.Rst why) p within is)) journal x)
-    where
-      t : DriverState
-      t = with_connection e.slot (after_packet (verdict.Rst why) p e.value) s
-
-      on : (b : Bool) → At t → At (cond b (waits_no_more e (record t { broken = counted s.broken })) (record t { broken = counted s.broken }))
-      on true y = y
-      on false y = y
-  known_traced p s e v within is x = on (ends_connection v p.header)
-    where
-      on : (b : Bool) → At (cond b (keeping (is_kept Driver e.flow e.value.end p) e.flow (after_leaving (record e { value = after_packet v p e.value }) s))
-          (with_connection e.slot (after_packet v p e.value) s))
-      on true = leaving_traced s (record e { value = after_packet v p e.value }) x
-      on false = value_traced s e.slot (after_packet v p e.value) (packet_comes by s.table.entries e v p within is) x
-
-  unknown_traced : (p : Packet) (s : DriverState) → At s → At (on_unknown p s)
-  unknown_traced p s x = on (is_reset p.header) (is_request p.header && may_open (flow_to_guest p.header) s)
-    where
-      on : (r q : Bool) → At (cond r s (cond q (with_request (flow_to_guest p.header) p.header s) (with_reply (reply_to (flow_to_guest p.header) p.header) s)))
-      on true q = x
-      on false true =
-          traced_still by s.next_id (s.next_id + 1) s.table.entries _ (omega arith) (one_comes by s.next_id s.table.entries _ (omega arith) refl) journal x
-      on false false = x
-
-  packet_traced : (p : Packet) (s : DriverState) → At s → At (on_packet p s)
-  packet_traced p s x = on (is_dropped Driver s.cid p.header)
-    where
-      heard : (o : Option DriverEntry) → entry_of s.table (flow_to_guest p.header) ≡ o
-          → At (elim o as (λ _. DriverState) [ None ↦ on_unknown p s | Some e ↦ on_known p e s ])
-      heard None is = unknown_traced p s x
-      heard (Some e) is = known_traced p s e (verdict_of e.value.end p.header) (found_by _ s.table.entries e is).0 refl x
-
-      on : (b : Bool) → At (cond b s (on_heard p s))
-      on true = x
-      on false = heard (entry_of s.table (flow_to_guest p.header)) refl
-
-  left_traced : (es : List DriverEntry) (s : DriverState) → At s → At (all_left es s)
-  left_traced [] s x = x
-  left_traced (e ∷ es) s x = left_traced es (with_reply (reset_reply e) (after_leaving e s)) (leaving_traced s e x)
+  small_traced : Small (λ port next table gone ls. IsTraced by journal next table.entries)
+  small_traced = record {
+    pays = λ what e s stands owes x. pays_traced what e s stands.contains owes x;
+    hears = λ v p e s stands is x. value_traced s e.slot (after_packet v p e.value) (packet_comes by s.table.entries e v p stands.contains is) x;
+    leaves = λ e s sound stands x. leaving_traced s e x;
+    ends = λ p e s sound stands x. leaving_traced s (record e { value = after_packet verdict.Peer p e.value }) x;
+    asks = λ f h s may x.
+        traced_still by s.next_id (s.next_id + 1) s.table.entries _ (omega arith) (one_comes by s.next_id s.table.entries _ (omega arith) refl) journal x;
+  }
 
   pub poll_traces : (first : ℕ) → Carries true first (Traced by journal)
-  poll_traces first = record {
-    owed = λ what e s log fits stands owes m was fair x. pays_traced what e s stands.contains owes x;
-    reply = λ r rest s log fits is m fair x. x;
-    got = λ p s log fits ports whole m was fair x. packet_traced p s x;
-    event = λ id s log x. x;
-    reset = λ cid s log less fits x. left_traced s.table.entries (record s { cid = cid; clean = of_host s.clean }) x;
-  }
+  poll_traces first = poll_sees (λ port next table gone ls. IsTraced by journal next table.entries) small_traced first

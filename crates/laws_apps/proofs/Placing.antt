@@ -26,11 +26,12 @@ use Rattle.vs_driver_parts.specs.Connections.{keeping}
 use Rattle.vs_driver_parts.proofs.Clean.{given_to, may_connect, port_below, port_rises}
 use Rattle.laws_driver.specs.{Honest.{IsFitState, IsFresh, IsHonestWith, ends_of_state}, Carried.Calls.{Accept, Close, Connect, Grow, GuestCall, Journal, Listen, LookAt, Made}}
 use Rattle.laws_driver.{specs.Carried.Calls.{Recv, ReplyTo, Send, Shutdown, Unlisten, is_right, whole_call}, proofs.{Calls.new_keeps, Carrying.{Carries, Fact}}}
+use Rattle.laws_driver.proofs.Sighting.{Small, poll_sees}
 use Rattle.laws_driver.proofs.{Changing.stands_known, Keeping.keeps_end, Polling.poll_keeps, Resetting.{first_contained, with_cid}, Staging.Rests, Tabling.{Stands, entry_fits}}
 use Rattle.laws_driver.proofs.{Tabling.{has_end, leaves}, Taking.with_reply_fits, Carried.{Growing.honest_stays, Making.{CarriesCall, whole_with}, Sending.begins}}
 use Rattle.laws_driver.proofs.Carried.Righting.{told_before}
 use Rattle.vs_apps_parts.specs.{Journals.made_as, Scripts.with_noted, Told.{told_of, wait_of}, declared.journal.{Entry.Entry, WaitsFor.WaitsFor}}
-use Rattle.laws_apps.specs.Placed.{AreOwned, ArePlaced, ArePlacedWith, IsAsked, IsPlacedEntry, IsPlacedValue, IsTo, asked_as, closed_by, stands_closed, stands_unanswered}
+use Rattle.laws_apps.specs.Placed.{AreOwned, ArePlaced, ArePlacedWith, HasPlaces, IsAsked, IsPlacedEntry, IsPlacedValue, IsTo, asked_as, closed_by, stands_closed, stands_unanswered}
 use Rattle.laws_apps.{specs.Placed.{was_closed, was_given, was_listened}, proofs.Placed.{alters, closes_entry, closes_gone, forwarded_stands, gone_less, got_stands, goes_on}}
 use Rattle.laws_apps.proofs.Placed.{leaving, listens, opening, or_first, or_second, StandsOn, paid_value, ports_kept, reading, shut_stands, stays_behind, value_goes, waits_kept}
 use Rattle.laws_apps.proofs.Placed.{waits_less, waits_now}
@@ -50,27 +51,18 @@ module _ (journal : Journal) (s : DriverState) (x : ArePlaced journal s) where
   value_of e stands = (All-contains (IsPlacedEntry journal s.listeners) s.table.entries e x.entries stands.contains).value
 
   -- What a connection owes is put.
-  pays : (what : Owed) (e : DriverEntry) → IsTable s.table → Stands s e → owes_of e.value.end ≡ Some what → ArePlaced journal (after_paying what e s)
-  pays owed.Rst e sound stands owes = leaving journal s x e e.value sound stands refl (value_of e stands)
-  pays what e sound stands owes = alters journal s x e (paid_connection what e.value) stands refl (paid_value journal e.value what owes (value_of e stands))
+  pays : (what : Owed) (e : DriverEntry) → Stands s e → owes_of e.value.end ≡ Some what
+      → ArePlaced journal (with_connection e.slot (paid_connection what e.value) s)
+  pays owed.Response e stands owes =
+      alters journal s x e (paid_connection owed.Response e.value) stands refl (paid_value journal e.value owed.Response owes (value_of e stands))
+  pays what e stands owes = alters journal s x e (paid_connection what e.value) stands refl (paid_value journal e.value what owes (value_of e stands))
 
-  -- A packet of a connection, which isn't refused.
-  module _ (p : Packet) (e : DriverEntry) (sound : IsTable s.table) (stands : Stands s e) where
+  -- A packet of a connection.
+  module _ (p : Packet) (e : DriverEntry) (stands : Stands s e) where
     heard_value : (v : Verdict) → IsPlacedValue journal (after_packet v p e.value)
     heard_value verdict.Deliver =
         value_goes journal e.value (after_packet verdict.Deliver p e.value) refl refl refl (got_stands e.value.end p.header) (value_of e stands)
     heard_value v = value_goes journal e.value (after_packet v p e.value) refl refl refl (got_stands e.value.end p.header) (value_of e stands)
-
-    peers : (b : Bool) → let c = after_packet verdict.Peer p e.value in
-        ArePlaced journal (cond b (keeping (is_kept Driver e.flow e.value.end p) e.flow (after_leaving (record e { value = c }) s)) (with_connection e.slot c s))
-    peers true = leaving journal s x e (after_packet verdict.Peer p e.value) sound stands refl (heard_value verdict.Peer)
-    peers false = alters journal s x e (after_packet verdict.Peer p e.value) stands refl (heard_value verdict.Peer)
-
-    by_verdict : (v : Verdict) → is_refused v ≡ false → ArePlaced journal (after_verdict v p e s)
-    by_verdict (verdict.Rst why) taken = absurd cc
-    by_verdict verdict.Peer taken = peers (is_reset p.header)
-    by_verdict verdict.Deliver taken = alters journal s x e (after_packet verdict.Deliver p e.value) stands refl (heard_value verdict.Deliver)
-    by_verdict v taken = alters journal s x e (after_packet v p e.value) stands refl (heard_value v)
 
   -- A REQUEST opens a connection, which waits on its port.
   parts : (a b c d e : Bool) → (a && b && c && d && e) ≡ true → ((a && b) ≡ true) × (c ≡ true)
@@ -93,63 +85,21 @@ module _ (journal : Journal) (s : DriverState) (x : ArePlaced journal s) where
         own = λ mine. let no : true ≡ false = sym is.0 ∙ mine in absurd cc;
       }) refl (λ on. refl)
 
-  unknown : (p : Packet) → ArePlaced journal (on_unknown p s)
-  unknown p = by (is_reset p.header) (is_request p.header) (may_open (flow_got Driver p) s) refl
-    where
-      by : (r q o : Bool) → may_open (flow_got Driver p) s ≡ o
-          → ArePlaced journal (cond r s (cond (q && o) (with_request (flow_got Driver p) p.header s) (with_reply (reply_to (flow_got Driver p) p.header) s)))
-      by true q o may = x
-      by false true true may = requests (flow_got Driver p) p.header may
-      by false true false may = x
-      by false false o may = x
-
--- A packet that is got.
-packet_placed : (first : ℕ) (journal : Journal) (p : Packet) (s : DriverState) (log : Log) → IsFitState true s → Matches Driver first (ends_of_state s) log
-    → IsFairLog Driver (GotPacket p ∷ log) → ArePlaced journal s → ArePlaced journal (on_packet p s)
-packet_placed first journal p s log fits m fair x = drop_by (is_dropped Driver s.cid p.header)
+pub small_places : (journal : Journal) → Small (HasPlaces journal)
+small_places journal = record {
+  pays = λ what e s stands owes x. pays journal s x what e stands owes;
+  hears = λ v p e s stands is x. alters journal s x e (after_packet v p e.value) stands (same_id v p e.value) (heard_value journal s x p e stands v);
+  leaves = λ e s sound stands x. leaving journal s x e e.value sound stands refl (value_of journal s x e stands);
+  ends = λ p e s sound stands x. leaving journal s x e (after_packet verdict.Peer p e.value) sound stands refl (heard_value journal s x p e stands verdict.Peer);
+  asks = λ f h s may x. requests journal s x f h may;
+}
   where
-    known : (e : DriverEntry) → Stands s e → flow_got Driver p ≡ e.flow → ArePlaced journal (on_known p e s)
-    known e stands same =
-        let has : HasEnd (flow_got Driver p) e.value.end (ends_of_state s) =
-        subst (λ (g : Flow). HasEnd g e.value.end (ends_of_state s)) (sym same) (has_end s e fits stands) in
-        let host : (flow_got Driver p).peer ≡ HOST_CID = ap (λ (g : Flow). g.peer) same ∙ (entry_fits s e fits stands).peer refl in
-        by_verdict journal s x p e fits.sound stands (verdict_of e.value.end p.header)
-        (got_not_refused Driver first p e.value.end (ends_of_state s) log m.flows has (fair (flow_got Driver p)) (heard_all first (flow_got Driver p) log host))
-
-    found : (o : Option DriverEntry) → entry_of s.table (flow_got Driver p) ≡ o → ArePlaced journal (on_heard p s)
-    found None none = subst (λ (t : DriverState). ArePlaced journal t) (sym (packet_unknown p s none)) (unknown journal s x p)
-    found (Some e) is =
-        let passes = found_by (λ (y : DriverEntry). same_flow (flow_got Driver p) y.flow) s.table.entries e is in
-        let stands : Stands s e = record { under = found_under _ s.table e fits.sound is; contains = passes.0 } in
-        subst (λ (t : DriverState). ArePlaced journal t) (sym (packet_known p s e is)) (known e stands (same_is (flow_got Driver p) e.flow passes.1))
-
-    drop_by : (b : Bool) → ArePlaced journal (cond b s (on_heard p s))
-    drop_by true = x
-    drop_by false = found (entry_of s.table (flow_got Driver p)) refl
-
--- A transport reset: all leave.
-all_placed : (journal : Journal) (es : List DriverEntry) (s : DriverState) → s.table.entries ≡ es → IsFitState true s → ArePlaced journal s
-    → ArePlaced journal (all_left es s)
-all_placed journal [] s is fits x = x
-all_placed journal (e ∷ es) s is fits x =
-    let P : List DriverEntry → Type 0 = λ xs. IsRising xs in
-    let rising : P (e ∷ es) = subst P is fits.sound.rising in
-    let first : slice_get s.table.entries 0 ≡ Some e = ap (λ (xs : List DriverEntry). slice_get xs 0) is in
-    let stands : Stands s e = record { under = first_under s.table e fits.sound first; contains = first_contained e es s.table.entries is } in
-    let l = leaves s e e.value fits stands in
-    let m : DriverState = after_leaving e s in
-    let table_is : m.table.entries ≡ es = ap (λ (xs : List DriverEntry). filter (λ x. not (x.slot == e.slot)) xs) is ∙ others_left e es rising in
-    all_placed journal es (with_reply (reset_reply e) m) table_is (with_reply_fits m (reset_reply e) l.fits (entry_fits s e fits stands).ports)
-    (leaving journal s x e e.value fits.sound stands refl (value_of journal s x e stands))
+    same_id : (v : Verdict) (p : Packet) (c : DriverConnection) → (after_packet v p c).id ≡ c.id
+    same_id verdict.Deliver p c = refl
+    same_id v p c = refl
 
 pub poll_places : (first : ℕ) (journal : Journal) → Carries true first (places journal)
-poll_places first journal = record {
-  owed = λ what e s log fits stands owes m was fair x. pays journal s x what e fits.sound stands owes;
-  reply = λ r rest s log fits is m fair x. x;
-  got = λ p s log fits ports whole m was fair x. packet_placed first journal p s log fits m fair x;
-  event = λ id s log x. x;
-  reset = λ cid s log less fits x. all_placed journal s.table.entries (record s { cid = cid; clean = of_host s.clean }) refl (with_cid cid s less fits) x;
-}
+poll_places first journal = poll_sees (HasPlaces journal) (small_places journal) first
 
 -- A call of an app's is no unlisten. What is noted of it, and the flow of the connection that it opened.
 abbrev pub IsOfApps : GuestCall → Type 0

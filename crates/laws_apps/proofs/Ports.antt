@@ -22,10 +22,11 @@ use Rattle.laws_driver.{specs.Carried.Calls.{Unlisten, flow_opened, whole_call},
 use Rattle.laws_driver.proofs.{Staging.Rests, Carried.{Growing.honest_stays, Making.{CarriesCall, whole_with}, Righting.told_before, Sending.begins}}
 use Rattle.vs_apps_parts.specs.{Journals.{entry_called, made_of}, Scripts.RunScript, Told.{told_by, told_of, wait_of}, declared.{journal.{Called.Called, Entry.Entry, WaitsFor.WaitsFor}, progress.Stepped.Stepped}}
 use Rattle.vs_apps_parts.specs.Scripts.{calls_in, id_of}
-use Rattle.laws_apps.specs.{Placed.{ArePlaced, was_given}, Ports.{ArePortsFrom, GivesPorts, GivesPortsWith, IsPort, next_port, port_behind, port_called, port_opened}}
+use Rattle.laws_driver.proofs.Sighting.{poll_sees}
+use Rattle.laws_apps.specs.{Placed.{ArePlaced, HasPlaces, was_given}, Ports.{ArePortsFrom, GivesPorts, GivesPortsWith, IsPort, next_port, port_behind, port_called, port_opened}}
 use Rattle.laws_apps.specs.Runs.{CallsNext, HasFlow, IsKept, IsRunOf, MakesCall, MakesCalls, Moves, NotesCall, PollsTo, Run, Steps, Waits, app_at, journal_of}
 use Rattle.laws_apps.proofs.{Entries.{behind_snoc, ports_snoc, wait_same}, Giving.AreApps, Keeping.{apps_next, call_keeps, of_apps, own_given, polls_keep, still_given}}
-use Rattle.laws_apps.proofs.Placing.{IsOfApps, opened_flow, poll_places}
+use Rattle.laws_apps.proofs.Placing.{IsOfApps, opened_flow, small_places}
 use Rattle.vs_conn.specs.declared.end.Owed.TheVariants as owed
 use Rattle.vs_conn.specs.declared.end.State.TheVariants as state
 use Rattle.vs_conn.specs.declared.end.Verdict.TheVariants as verdict
@@ -41,61 +42,20 @@ leaving_port e s = by e.value.unanswered
     by true = refl
     by false = refl
 
-paying_port : (what : Owed) (e : DriverEntry) (s : DriverState) → (after_paying what e s).next_port ≡ s.next_port
-paying_port owed.Rst e s = leaving_port e s
-paying_port what e s = refl
-
-known_port : (p : Packet) (e : DriverEntry) (s : DriverState) (v : Verdict) → (after_verdict v p e s).next_port ≡ s.next_port
-known_port p e s (verdict.Rst why) = on e.value.unanswered
-  where
-    on : (b : Bool) → (cond b (waits_no_more e (with_connection e.slot (after_packet (verdict.Rst why) p e.value) (record s { broken = counted s.broken })))
-        (with_connection e.slot (after_packet (verdict.Rst why) p e.value) (record s { broken = counted s.broken }))).next_port ≡ s.next_port
-    on true = refl
-    on false = refl
-known_port p e s v = on (ends_connection v p.header)
-  where
-    on : (b : Bool) → (cond b (keeping (is_kept Driver e.flow e.value.end p) e.flow (after_leaving (record e { value = after_packet v p e.value }) s))
-        (with_connection e.slot (after_packet v p e.value) s)).next_port ≡ s.next_port
-    on true = leaving_port (record e { value = after_packet v p e.value }) s
-    on false = refl
-
-packet_port : (p : Packet) (s : DriverState) → (on_packet p s).next_port ≡ s.next_port
-packet_port p s = on (is_dropped Driver s.cid p.header)
-  where
-    unknown : (r q : Bool)
-        → (cond r s (cond q (with_request (flow_to_guest p.header) p.header s) (with_reply (reply_to (flow_to_guest p.header) p.header) s))).next_port ≡ s.next_port
-    unknown true q = refl
-    unknown false true = refl
-    unknown false false = refl
-
-    heard : (o : Option DriverEntry) → (elim o as (λ _. DriverState) [ None ↦ on_unknown p s | Some e ↦ on_known p e s ]).next_port ≡ s.next_port
-    heard None = unknown (is_reset p.header) (is_request p.header && may_open (flow_to_guest p.header) s)
-    heard (Some e) = known_port p e s (verdict_of e.value.end p.header)
-
-    on : (b : Bool) → (cond b s (on_heard p s)).next_port ≡ s.next_port
-    on true = refl
-    on false = heard (entry_of s.table (flow_to_guest p.header))
-
-left_port : (es : List DriverEntry) (s : DriverState) → (all_left es s).next_port ≡ s.next_port
-left_port [] s = refl
-left_port (e ∷ es) s = left_port es (with_reply (reset_reply e) (after_leaving e s)) ∙ leaving_port e s
-
 -- The ids of the driver's connections are those that the journal left, and its next port is this one.
 abbrev at_port : ℕ → Journal → Fact
 at_port n journal part s log = ArePlaced journal s × (s.next_port ≡ n)
 
 poll_ports : (first n : ℕ) (journal : Journal) → Carries true first (at_port n journal)
 poll_ports first n journal =
-    let was = poll_places first journal in
-    record {
-      owed = λ what e s log fits stands owes m before fair x.
-          (was.owed what e s log fits stands owes m before fair x.0, paying_port what e s ∙ x.1);
-      reply = λ r rest s log fits is m fair x. (was.reply r rest s log fits is m fair x.0, x.1);
-      got = λ p s log fits ports whole m before fair x. (was.got p s log fits ports whole m before fair x.0, packet_port p s ∙ x.1);
-      event = λ id s log x. (was.event id s log x.0, x.1);
-      reset = λ cid s log less fits x.
-          (was.reset cid s log less fits x.0, left_port s.table.entries (record s { cid = cid; clean = of_host s.clean }) ∙ x.1);
-    }
+    let was = small_places journal in
+    poll_sees (λ port next table gone ls. HasPlaces journal port next table gone ls × (port ≡ n)) (record {
+      pays = λ what e s stands owes x. (was.pays what e s stands owes x.0, x.1);
+      hears = λ v p e s stands is x. (was.hears v p e s stands is x.0, x.1);
+      leaves = λ e s sound stands x. (was.leaves e s sound stands x.0, leaving_port e s ∙ x.1);
+      ends = λ p e s sound stands x. (was.ends p e s sound stands x.0, leaving_port (record e { value = after_packet verdict.Peer p e.value }) s ∙ x.1);
+      asks = λ f h s may x. (was.asks f h s may x.0, x.1);
+    }) first
 
 -- A connect that opens a connection gives this port, if one is left, and the next one is that behind it.
 pub record Opens (n id : ℕ) (s : DriverState) : Type 0 where

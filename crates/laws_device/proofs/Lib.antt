@@ -19,6 +19,7 @@ pub mod Turning
 pub mod Stepping
 pub mod Packets
 pub mod Growing
+pub mod Deciding
 pub mod Waiting
 pub mod Logs
 pub mod Dropping

@@ -4,7 +4,7 @@ use Rattle.vs_conn.specs.End.{ConnectionEnd}
 use Rattle.vs_flow.specs.{declared.flow.Flow.Flow, Table.Table}
 use Rattle.vs_limits.specs.declared.TheConstants.{HOST_CID}
 use Rattle.vs_page.specs.{Log.{flow_got, Device, Log, packets_put}, Open.is_dropped, declared.log.LogEntry.{LogEntry, TheVariants.GotPacket}, Fair.IsFairLog, Held.FitsWire}
-use Rattle.laws_tables.specs.{Steps.{HasEnd, IsNextFlow}, Both.{Asks, MayHappen, Opens, Seat, Step, Takes, after}, Ends.Ends, Matches.Matches}
+use Rattle.laws_tables.{specs.{Steps.HasEnd, Both.{Asks, Opens, Seat, Step, after}, Ends.Ends, Matches.Matches}, proofs.Going.MayDo}
 use Rattle.laws_device.specs.{Carried.Streamed.gives, Honest.{IsFit, ends_of_state, ends_with}}
 use Rattle.laws_history.specs.declared.packet.Packet.{Packet}
 use Rattle.vs_ring_port.specs.{Chains.Held, EndLog.EndLog}
@@ -16,13 +16,6 @@ seat port s log = record { part = ends_of_state port s; log = log }
 
 pub at_log : (log : Log) (old new : Ends) → old ≡ new → (let w : Seat = record { part = old; log = log } in w) ≡ record { part = new; log = log }
 at_log log old new = ap (λ (part : Ends). let w : Seat = record { part = part; log = log } in w)
-
--- A step that may happen there, whatever the other end did.
-abbrev pub MayDo : Step → Seat → Type 0
-MayDo (Opens f kind) w = IsNextFlow Device f w.part
-MayDo (Asks f kind) w = IsNextFlow Device f w.part
-MayDo (Takes p answer) w = Unit {0}
-MayDo step w = MayHappen Device step (record { driver = w; device = w })
 
 -- The flow that a step asks for is such a one.
 abbrev pub IsAsked : (Flow → Type 0) → Step → Type 0
@@ -48,7 +41,7 @@ pub record Carried : Type 1 where
   pub asks : Flow → Type 0
   pub of_host : (f : Flow) → f.peer ≡ HOST_CID → asks f
   pub holds : Seat → Type 0
-  pub step : (step : Step) (w : Seat) → MayDo step w → IsAsked asks step → (PutsFit w.log → PutsFit (after Device step w).log) → holds w → holds (after Device step w)
+  pub step : (step : Step) (w : Seat) → MayDo Device step w → IsAsked asks step → (PutsFit w.log → PutsFit (after Device step w).log) → holds w → holds (after Device step w)
   pub plain : ℕ → Log → Type 0
   pub before : (first : ℕ) (entry : LogEntry) (log : Log) → plain first (entry ∷ log) → plain first log
   pub idle : (first : ℕ) (p : Packet) (w : Seat) → holds w → Matches Device first w.part w.log → IsFairLog Device (GotPacket p ∷ w.log)

@@ -450,7 +450,7 @@ module _ (carry : Carried) (lines : List Handshake) (first port : ℕ) where
                     (asks first flow Stream (ends_of_state port s) l.entries p.matches g.next);
                 fair = p.fair;
                 seated = subst (λ (w : Seat). carry.holds w) (at_log l.entries _ _ part_is)
-                    (carry.step (Asks flow Stream) (seat port s l.entries) g.next g.wanted (λ all. all) p.seated);
+                    (carry.step (Asks flow Stream) (seat port s l.entries) (refl, g.next) g.wanted (λ all. all) p.seated);
               },
               labels o n l p exposes (was.1 honest).1,
             ),

@@ -13,6 +13,8 @@ use Rattle.vs_ring_port.specs.{Chains.Held, Chains.same_chain, Contents.RingCont
 use Rattle.laws_tables.specs.{Ends.Ends, Ends.entries_of, Ends.is_among, Ends.is_new, Ends.new_flows, Ends.replied, Matches.Matches}
 use Rattle.laws_tables.specs.Steps as steps
 use Rattle.vs_device_parts.specs.{Playing.IsRxChain, State.DeviceConnection, State.DeviceEntry, State.DeviceState}
+use Rattle.laws_tables.specs.Later.{IsPast, StillPast}
+use Rattle.vs_flow.specs.Connection.{Connection}
 
 -- The device's connections, the replies that it owes, the flows that it keeps to be used again, the next host port that is assigned, and the
 -- guest's CID.
@@ -139,3 +141,10 @@ Advertises p = is_rst p ≡ false → BUF_ALLOC ≤ p.header.buf_alloc
 pub record IsClients (e : DeviceEntry) : Type 0 where
   pub by_client : e.value.by_client ≡ true
   pub asker : side_of Device e.flow ≡ Asker
+
+-- Where an honest ring tells its log: a connection on which nothing more is put, by the device as it was, is one by the device as it is, and nothing
+-- was put there. Beside each stands the next host port to be assigned.
+abbrev pub StaysPast : Connection → ℕ → DeviceState → RingContents → ℕ → DeviceState → RingContents → Type 0
+StaysPast c port s old next t new = old.honest ≡ true → ForSome old.log (λ l. ForSome new.log (λ m.
+    IsPast Device c (record { part = ends_of_state port s; log = l.entries })
+    → StillPast Device c (record { part = ends_of_state port s; log = l.entries }) (record { part = ends_of_state next t; log = m.entries })))

@@ -2,7 +2,7 @@
 
 ghost use Rattle.std.specs.{Prelude.{◌≡◌, ◌<◌, ◌≤◌, ◌^◌, ℕ, Bool, true, false, List, [], Some, Result, Contains, length, take, drop}, List.All, Option.ForSome};
 ghost use Rattle.vs_contents.specs.Contents.{Relates};
-ghost use Rattle.vs_flow.specs.declared.{flow.Flow.Flow, table.TableFault.TableFault};
+ghost use Rattle.vs_flow.specs.{Connection.Connection, declared.{flow.Flow.Flow, table.TableFault.TableFault}};
 ghost use Rattle.vs_header.specs.{Packet.header_of, declared.{Header.Header, TheConstants.HEADER_LEN}};
 ghost use Rattle.laws_history.specs.{Packets.is_rw, declared.packet.Packet.Packet};
 ghost use Rattle.vs_limits.specs.declared.TheConstants.{BUF_ALLOC_MAX};
@@ -13,7 +13,7 @@ ghost use Rattle.vs_ring_port.specs.declared.queue.Queue.TheVariants.{Event, Rx,
 ghost use Rattle.vs_device_parts.specs.{Calls.{Allows, DeviceTree, Ring, Situation}, Playing.{MayRun, Runs}, Receiving.{event_on, fill_rx_of, pay_event_of, written}};
 ghost use Rattle.vs_device_parts.specs.{State.{DeviceEntry, DeviceState, new_device}, Streams.{Writing, pump_of, tick_of}, Transmitting.take_tx_of, Turns.{open_of, reset_of}};
 ghost use Rattle.vs_device_parts.specs.{Turns.table_shown, declared.answers.{Filled.Filled, Taken.Taken}};
-ghost use Rattle.laws_device.specs.{Named.Streams.FindsStreams, Honest.{Advertises, AgreesWith, IsClients, IsFitFlow, IsFresh, IsLeftOpen, IsWith, ends_of_state, port_after}};
+ghost use Rattle.laws_device.specs.{Named.Streams.FindsStreams, Honest.{Advertises, AgreesWith, IsClients, IsFitFlow, IsFresh, IsLeftOpen, IsWith, StaysPast, ends_of_state, port_after}};
 ghost use Rattle.laws_device.specs.{Packets.{HasAdded, HasTaken, HoldsLast, IsWholeAs, packet_with}, Streams.{AreStreamedWith, IsTabledWith, is_waiting_for_request}};
 ghost use Rattle.laws_device.specs.Worked.{asked_log, client_flow, client_host};
 ghost use Rattle.vs_proxy_parts.specs.State.{Handshake};
@@ -118,6 +118,23 @@ pub fn law_of_logs<T>()
         → Relates a.ring.log b.ring.log (λ l m. IsLater l.entries m.entries) }
     ensures shut { (tree : DeviceTree T) (a b : Situation) (x : T) → IsSound Device a.ring → Runs tree a x b → a.ring.honest ≡ true
         → ForSome a.ring.log (λ l. ForSome b.ring.log (λ m. StaysShut Device l.entries m.entries)) }
+{}
+
+/// What the device decided to send no more on, told or not: over an honest ring that tells its log no call puts payload on that connection any
+/// more, also where its flow is used again (Virtio 1.2, section 5.10.6.5).
+pub fn law_of_decisions()
+    ensures take_tx { (first port : ℕ) (k : Connection) (s : DeviceState) (a b : Situation) (x : DeviceState × Taken) → IsWith first port s a.ring
+        → Runs (take_tx_of s) a x b → StaysPast k port s a.ring port x.0 b.ring }
+    ensures pay_event { (first port : ℕ) (k : Connection) (s : DeviceState) (a b : Situation) (x : DeviceState × Result Bool Failure)
+        → IsWith first port s a.ring → Runs (pay_event_of s) a x b → StaysPast k port s a.ring port x.0 b.ring }
+    ensures fill_rx { (first port : ℕ) (k : Connection) (s : DeviceState) (a b : Situation) (x : DeviceState × Result Filled Failure)
+        → IsWith first port s a.ring → Runs (fill_rx_of s) a x b → StaysPast k port s a.ring port x.0 b.ring }
+    ensures reset { (first port cid : ℕ) (k : Connection) (s : DeviceState) (a b : Situation) (x : DeviceState × Result (Unit {0}) Failure)
+        → cid < 2 ^ 64 → IsWith first port s a.ring → Runs (reset_of cid s) a x b → StaysPast k port s a.ring port x.0 b.ring }
+    ensures tick { (first port now : ℕ) (k : Connection) (s t : DeviceState) (a b : Situation) → IsWith first port s a.ring
+        → Runs (tick_of now s) a t b → StaysPast k port s a.ring port t b.ring }
+    ensures pump_out { (first port : ℕ) (k : Connection) (s : DeviceState) (a b : Situation) (w : Writing) → IsWith first port s a.ring
+        → Runs (pump_of s) a w b → StaysPast k port s a.ring port w.state b.ring }
 {}
 
 /// Over any ring that tells its log a packet is one entry. The packet that the device writes into a chain and returns is put, with its

@@ -12,4 +12,5 @@ pub mod Making
 pub mod Journaling
 pub mod Senders
 pub mod Righting
+pub mod Deciding
 pub mod SamePages

@@ -16,4 +16,5 @@ pub mod Shown
 pub mod Stepping
 pub mod Stopping
 pub mod Walking
+pub mod Sighting
 pub mod Carried

@@ -11,7 +11,7 @@ ghost use Rattle.vs_driver_parts.specs.{Connections.after_unlisten, Listening.{a
 ghost use Rattle.vs_limits.specs.declared.TheConstants.{LAST_PORT};
 ghost use Rattle.laws_driver.specs.{Honest.{IsFresh, IsHonestWith}, Carried.Calls.{GuestCall, IsJournaledWith, Journal, ReplyTo, account_of, is_right, makes_call, sent_of}};
 ghost use Rattle.laws_driver.specs.Carried.{Calls.{whole_call, with_call}, Received.{Account, GoesOnWith, IsReceivedWith, after_receive, no_account}, Senders.GoesRightWith};
-ghost use Rattle.laws_driver.specs.Carried.{Senders.IsRightWith, Sent.{PutsJust, TellsMore, none_on, took}};
+ghost use Rattle.laws_driver.specs.Carried.{Senders.IsRightWith, Sent.{PutsJust, StaysPast, TellsMore, none_on, took}};
 
 /// Over an honest ring that tells its log a call, whole or on the pages as they stand, puts just the bytes that its reply says a send took, on
 /// the connection of the send's id, and none on any other. A poll puts no payload (Virtio 1.2, section 5.10.6.3).
@@ -28,11 +28,18 @@ pub fn law_of_sent()
 {}
 
 /// Any conversation of the driver, over any ring: a log that is told is told with more entries. Over an honest ring no more payload is put
-/// on a connection after the SHUTDOWN that says 'no more is sent' (Virtio 1.2, section 5.10.6.5).
+/// on a connection after the SHUTDOWN that says 'no more is sent'; nor, by no call, once its end decided so, told or not, also where its flow
+/// is used again (Virtio 1.2, section 5.10.6.5).
 pub fn law_of_logs<T>()
     ensures grows { (tree : DriverTree T) (c d : RingContents) (x : T) → Plays tree c x d → TellsMore c.log d.log }
     ensures shut { (tree : DriverTree T) (c d : RingContents) (x : T) → IsSound Driver c → Plays tree c x d → c.honest ≡ true
         → ForSome c.log (λ l. ForSome d.log (λ m. StaysShut Driver l.entries m.entries)) }
+    ensures decided { (first : ℕ) (k : Connection) (call : GuestCall) (s : DriverState) (c d : RingContents) (x : DriverState × ReplyTo call)
+        → is_right call ≡ true → IsHonestWith true first s c → Plays (whole_call call s) c x d → StaysPast k s x.0 c d }
+    ensures decided_step { (first : ℕ) (k : Connection) (call : GuestCall) (s : DriverState) (c d : RingContents) (x : DriverState × ReplyTo call)
+        → is_right call ≡ true → IsHonestWith true first s c → Plays (makes_call call s) c x d → StaysPast k s x.0 c d }
+    ensures decided_poll { (first : ℕ) (k : Connection) (s : DriverState) (c d : RingContents) (x : DriverState × Polled)
+        → IsHonestWith true first s c → Plays (poll_of s) c x d → StaysPast k s x.0 c d }
 {}
 
 /// What an application received on a connection, and then the bytes that are unread, is the payload delivered to it. A receive gives of the

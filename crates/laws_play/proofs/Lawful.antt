@@ -1,7 +1,7 @@
 -- What holds of each play.
 use Rattle.laws_world.proofs.{Carried.{none_received, sent_as_put, sent_stays, wrote_as_put, wrote_stays}, NamesStay.{IsTold, accept_told, connect_told, still_over, still_told}}
 use Rattle.laws_world.proofs.{Names.{IsOver, closed_unknown, flow_opened}, CallRests.opening_rests, Opening.{opening_well, run_goes}, ResetTables.device_emptied}
-use Rattle.laws_world.{proofs.{ScriptLines.{script_leads, script_rests}, Shutting.{IsPast, is_past, run_past}, Sound.{Goes, IsWell, tx_at_rest}}, specs.Events.is_at_rest}
+use Rattle.laws_world.{proofs.{ScriptLines.{script_leads, script_rests}, Sound.{Goes, IsWell, tx_at_rest}}, specs.Events.is_at_rest}
 use Rattle.laws_world.specs.{Sides.{both_of, device_ends, driver_ends, log_with_staged}, Pipes.{IsFresh, IsRightIn, IsSentIn}, Steps.Leads, World.{Beginning, World, first_cid}}
 use Rattle.laws_world.specs.Names.{times_closed}
 use Rattle.std.proofs.Common.{◌≡◌, ◌≢◌, ℕ, suc, ◌<◌, ◌≤◌, ◌^◌, ◌==◌, Bool, true, false, cond, List, [], ◌∷◌, ◌++◌, None, Some, Result, Ok, refl, sym, ap, subst, ◌∙◌, map, arith}
@@ -10,7 +10,7 @@ use Rattle.vs_flow.specs.{Connection.Connection, declared.flow.Flow.Flow}
 use Rattle.laws_history.specs.{History.puts, Packets.{has, shuts_send}}
 use Rattle.vs_driver_parts.specs.{declared.answers.{ConnectError.ConnectError, Accepted.Accepted}, Connections.flow_of}
 use Rattle.vs_device_parts.specs.{State.counters_of, declared.answers.Counters.Counters}
-use Rattle.laws_tables.{specs.{Both.{Both, at}, Steps.HasEnd}, proofs.Slots.one_end}
+use Rattle.laws_tables.{specs.{Both.{Both, at}, Later.IsPast, Steps.HasEnd}, proofs.{Shutting.{is_past, run_past}, Slots.one_end}}
 use Rattle.vs_outside.specs.{Host.HostContents, HostProgram.{new_host, plain}}
 use Rattle.vs_page.specs.{Fair.{number_of, payload_put}, Log.{Device, Driver, Log, Role, history_of}}
 use Rattle.vs_script.{specs.{Play.Event, Script.{Plays, parse_of}, Bounds.AreBounded}, proofs.Bounded.all_bounded}
@@ -59,7 +59,7 @@ module _ (w v : World) (c : Connection) (well : IsWell Fresh w) (goes : Goes wel
   -- What an end put stays from its decision on that it sends no more.
   decided_put : (role : Role) → IsPast role c (at role (both_of w)) → payload_put role c (at role (both_of v)).log ≡ payload_put role c (at role (both_of w)).log
   decided_put role x = subst (λ (b : Both). payload_put role c (at role b).log ≡ payload_put role c (at role (both_of w)).log) goes.runs.ends
-      (run_past first_cid c role goes.runs.steps (both_of w) well.sound goes.runs.may x)
+      (run_past role first_cid c goes.runs.steps (both_of w) well.sound goes.runs.may x).put
 
   stays_shut : is_at_rest w.rings.driver.staged ≡ true → StaysShut opened c w v
   stays_shut rest = record {
@@ -67,11 +67,11 @@ module _ (w v : World) (c : Connection) (well : IsWell Fresh w) (goes : Goes wel
         (ap (λ (log : Log). has shuts_send (puts (history_of Driver c.flow log))) (log_is w well fresh rest) ∙ shut);
     wrote = wrote_stays w v well goes c fresh;
     guest_shut = λ past e there flow shut. sent_as_put w v well goes c opened opened before after
-        (decided_put Driver (is_past Driver c (both_of w).driver e.value.end (up_to past) (subst (λ (g : Flow). HasEnd g e.value.end (driver_ends w.driver)) flow
-        (one_end (λ d. d.end) w.driver.table e well.driver.sound there)) shut));
+        (decided_put Driver (is_past Driver c (both_of w).driver e.value.end (subst (λ (g : Flow). HasEnd g e.value.end (driver_ends w.driver)) flow
+        (one_end (λ d. d.end) w.driver.table e well.driver.sound there)) shut (up_to past)));
     stream_ended = λ some past e there flow shut. wrote_as_put w v well goes c fresh some
-        (decided_put Device (is_past Device c (both_of w).device e.value.end past (subst (λ (g : Flow). HasEnd g e.value.end (device_ends w.proxy)) flow
-        (one_end (λ d. d.end) w.proxy.device.table e well.device.fits.sound there)) shut));
+        (decided_put Device (is_past Device c (both_of w).device e.value.end (subst (λ (g : Flow). HasEnd g e.value.end (device_ends w.proxy)) flow
+        (one_end (λ d. d.end) w.proxy.device.table e well.device.fits.sound there)) shut past));
   }
     where
       up_to : c.number ≤ number_of Driver c.flow (driver_log w) → c.number ≤ number_of Driver c.flow (both_of w).driver.log

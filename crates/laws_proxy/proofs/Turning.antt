@@ -7,12 +7,17 @@ use Rattle.vs_ring_port.specs.{Contents.RingContents, declared.failure.Failure.F
 use Rattle.vs_device_parts.specs.{Receiving.{fill_rx_of, pay_event_of}, Calls.{DeviceTree, Situation}, State.DeviceState, Streams.{pump_of, tick_of}, Transmitting.take_tx_of}
 use Rattle.vs_device_parts.specs.Turns.{reset_of}
 use Rattle.laws_device.proofs.Carrying.{Fact, StreamedOver, With, fact_called, held_with, streams_call, with_ring, with_streams, ring_only, whole, ring_and_host}
-use Rattle.laws_device.proofs.{Turning.{new_with, pay_keeps, pump_keeps, reset_keeps, tick_keeps}, Keeping.{Keeps, keeps_then, asking, keeps_weaker}, Filling.fill_keeps}
+use Rattle.vs_flow.specs.Connection.{Connection}
+use Rattle.vs_device_parts.specs.Playing.{Runs}
+use Rattle.laws_device.proofs.{Deciding.{going, going_from}, Seats.seat}
+use Rattle.laws_device.specs.Honest.{StaysPast}
+use Rattle.laws_device.proofs.{Turning.{new_with, pay_keeps, pump_keeps, reset_keeps, tick_keeps}, Keeping.{Keeps, keeps_end, keeps_then, asking, keeps_weaker}, Filling.fill_keeps}
 use Rattle.laws_device.{proofs.{Transmitting.take_keeps, Seats.Carried, Walk.Turning.{KeptBy, keeps_turn_by}, Carried.Opens.first_dropped}, specs.Honest.IsFresh}
 use Rattle.vs_proxy_parts.specs.{Turns.{close_handshake, new_proxy_at, proxy_reset_of, reset_with, turn_of}, State.{Handshake, ProxyState, with_device}, declared.answers.Turn.Turn}
 use Rattle.vs_proxy_parts.specs.Handshakes.{streams_of}
 use Rattle.laws_proxy.{specs.Honest.{IsProxyWith, IsProxyStreamed}, proofs.Shaking.{At, shaking}}
 use Rattle.vs_outside.specs.Host.{after_close}
+use Rattle.laws_device.proofs.Deciding as deciding
 
 pub new_proxy_with : (cid : ℕ) (base : List ℕ) (port : ℕ) (c : RingContents) → cid < 2 ^ 64 → ASSIGNED_FIRST ≤ port → IsFresh c
     → IsProxyWith cid (new_proxy_at cid base port) c
@@ -90,6 +95,23 @@ plain_proxied first s c holds = (holds.0, held_with ⊥ s.handshakes first s.nex
 
 pub proxied_ring : (ok : Type 0) (first : ℕ) (s : ProxyState) (c : Situation) → Proxied (whole ok) first s c → IsProxyWith first s c.ring
 proxied_ring ok first s c holds = (holds.0, with_ring ok s.handshakes first s.next_port s.device c holds.1)
+
+-- The device decided to send no more on a connection.
+module _ (first : ℕ) (k : Connection) (s : ProxyState) (a b : Situation) (holds : IsProxyWith first s a.ring) where
+  ends_past : {A : Type 0} (tree : DeviceTree (ProxyState × A)) (x : ProxyState × A)
+      → ((carry : Carried) → Proxied carry first s a → Keeps (λ y d. Proxied carry first y.0 d) tree a) → Runs tree a x b
+      → StaysPast k s.next_port s.device a.ring x.0.next_port x.0.device b.ring
+  ends_past tree x keeps runs = deciding.ends_past first s.next_port k s.device a b holds.1 tree x x.0.handshakes x.0.next_port x.0.device runs (λ l is.
+      (keeps_end _ tree a b x (keeps (going (seat s.next_port s.device l.entries))
+      (holds.0, going_from s.handshakes first s.next_port s.device a l is holds.1)) runs).1)
+
+  pub turn_past : (size now : ℕ) (x : ProxyState × Turn) → Runs (turn_of size now s) a x b
+      → StaysPast k s.next_port s.device a.ring x.0.next_port x.0.device b.ring
+  turn_past size now x = ends_past (turn_of size now s) x (λ carry. turn_keeps carry first size now s a)
+
+  pub reset_past : (cid : ℕ) (x : ProxyState × Result (Unit {0}) Failure) → cid < 2 ^ 64 → Runs (proxy_reset_of cid s) a x b
+      → StaysPast k s.next_port s.device a.ring x.0.next_port x.0.device b.ring
+  reset_past cid x fits = ends_past (proxy_reset_of cid s) x (λ carry. proxy_reset_keeps carry first cid s a fits)
 
 -- They are.
 pub streamed_proxied : (first : ℕ) (s : ProxyState) (c : Situation) → IsProxyWith first s c.ring → IsProxyStreamed first s c → Proxied ring_and_host first s c

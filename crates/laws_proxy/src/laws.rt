@@ -4,13 +4,15 @@ ghost use Rattle.std.specs.{Option.ForSome, Prelude.{◌≡◌, ◌<◌, ◌≤�
 ghost use Rattle.vs_limits.specs.declared.TheConstants.{ASSIGNED_FIRST};
 ghost use Rattle.vs_ring_port.specs.{Contents.RingContents, declared.failure.Failure.Failure};
 ghost use Rattle.vs_device_parts.specs.{Calls.Situation, Playing.{MayRun, Runs}};
-ghost use Rattle.laws_device.specs.{Named.Streams.FindsStreams, Dropped.IsCountedWith, Honest.IsFresh, Streams.IsTabledWith};
+ghost use Rattle.laws_device.specs.{Named.Streams.FindsStreams, Dropped.IsCountedWith, Honest.{IsFresh, StaysPast}, Streams.IsTabledWith};
+ghost use Rattle.vs_flow.specs.Connection.{Connection};
 ghost use Rattle.vs_proxy_parts.specs.{Handshakes.streams_of, State.ProxyState, Turns.{new_proxy_at, proxy_reset_of, turn_of}, declared.answers.Turn.Turn};
 ghost use Rattle.laws_proxy.specs.{Honest.{IsProxyStreamed, IsProxyWith}, Order.IsInOrder, Resets.IsEmptied};
 
 /// Over a ring that tells its log a turn and a reset leave the proxy with its ring: the device holds the one chain that it keeps for the
 /// next packet, and over an honest ring its connections are those that the log left. Each packet of a turn keeps the log fair, so a turn
-/// may be made where the streams are open (Virtio 1.2, section 5.10.6.3).
+/// may be made where the streams are open. What the device decided to send no more on, told or not, it puts no payload on any more, also where the
+/// flow is used again (Virtio 1.2, sections 5.10.6.3 and 5.10.6.5).
 pub fn law_of_turns()
     ensures new { (cid : ℕ) (base : List ℕ) (port : ℕ) (c : RingContents) → cid < 2 ^ 64 → ASSIGNED_FIRST ≤ port → IsFresh c
         → IsProxyWith cid (new_proxy_at cid base port) c }
@@ -20,6 +22,11 @@ pub fn law_of_turns()
         → Runs (turn_of size now s) a x b → IsProxyWith first x.0 b.ring }
     ensures reset { (first cid : ℕ) (s : ProxyState) (a b : Situation) (x : ProxyState × Result (Unit {0}) Failure) → cid < 2 ^ 64
         → IsProxyWith first s a.ring → Runs (proxy_reset_of cid s) a x b → IsProxyWith first x.0 b.ring }
+    ensures decided { (first size now : ℕ) (k : Connection) (s : ProxyState) (a b : Situation) (x : ProxyState × Turn) → IsProxyWith first s a.ring
+        → Runs (turn_of size now s) a x b → StaysPast k s.next_port s.device a.ring x.0.next_port x.0.device b.ring }
+    ensures decided_reset { (first cid : ℕ) (k : Connection) (s : ProxyState) (a b : Situation) (x : ProxyState × Result (Unit {0}) Failure)
+        → cid < 2 ^ 64 → IsProxyWith first s a.ring → Runs (proxy_reset_of cid s) a x b
+        → StaysPast k s.next_port s.device a.ring x.0.next_port x.0.device b.ring }
 {}
 
 /// Over an honest ring that tells its log and a host that exposes its streams a turn and a reset keep what these took and gave in step with the log,

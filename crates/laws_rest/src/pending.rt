@@ -6,7 +6,8 @@ ghost use Rattle.vs_header.specs.declared.{Header.Header, Kind.Kind};
 ghost use Rattle.vs_limits.specs.declared.TheConstants.{BUF_ALLOC};
 ghost use Rattle.vs_device_parts.specs.{Connections.{after_shut, after_written, cut_off, new_connection}, State.DeviceConnection, Streams.to_write, Transmitting.heard};
 ghost use Rattle.laws_device.specs.Honest.{HoldsBytes};
-ghost use Rattle.laws_rest.specs.Pending.{IsExact, delivered};
+ghost use Rattle.laws_tables.specs.Drains.{delivered};
+ghost use Rattle.laws_rest.specs.Pending.{IsExact};
 
 /// Each step on a connection keeps it so, where the numbers fit: a packet that is heard, with its payload where that is delivered; what is
 /// put; a write; a shutdown.

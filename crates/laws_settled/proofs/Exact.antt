@@ -23,7 +23,8 @@ use Rattle.laws_device.{specs.{Honest.HoldsBytes, Walk.Seen.Seen}, proofs.{Ringi
 use Rattle.laws_device.proofs.{Named.Keeping.{asking, keeps_end}, Walk.{Keeping.{Asking, Keeps, keeps_if, keeps_some, keeps_then}, Serving.{AfterRead, AfterWrite, Closes, Fills}}}
 use Rattle.laws_device.proofs.Walk.{Serving.{IsIn, Writes, by_flow, keeps_fill_rx, keeps_leaving, keeps_pay_event, keeps_pump, keeps_tick}, Turning.{AfterAccept, AfterByte}}
 use Rattle.laws_device.proofs.Walk.Turning.{Between, Ends, Shakes, keeps_turn_by}
-use Rattle.laws_rest.{proofs.Unread.{pays, writes}}
+use Rattle.laws_tables.specs.Drains.{delivered}
+use Rattle.laws_rest.{specs.Pending.IsExact, proofs.Unread.{hears, pays, shuts, writes}}
 use Rattle.laws_settled.specs.Exact.{AreExact, HoldsExactly}
 use Rattle.vs_conn.specs.declared.end.Verdict.TheVariants as verdict
 use Rattle.vs_conn.specs.declared.end.Why.TheVariants as why

@@ -11,7 +11,8 @@ use Rattle.vs_replies.specs.declared.Reply.{Reply}
 use Rattle.laws_tables.specs.Both.{Asks, Decides, MakesReset, Opens, Pays, PutsEvent, Replies, Seat, Sends, Step, Takes, TakesEvent, TakesReset, after, after_packet}
 use Rattle.laws_tables.specs.{Both.answered, Ends.{Ends, FlowEnd, answer_kind, ends_of, flows_of, replaced, replied, without_flow}, Steps.{is_kept, owed_on, paid, payload_on}}
 use Rattle.laws_tables.specs.Steps.{reply_on, request_on, taken, with_clean}
-use Rattle.laws_device.proofs.Seats.{IsAsked, MayDo}
+use Rattle.laws_device.proofs.Seats.{IsAsked}
+use Rattle.laws_tables.proofs.Going.{MayDo}
 use Rattle.laws_settled.specs.Hosts.{AreWithHost, IsHosts}
 use Rattle.vs_conn.specs.declared.end.Owed.TheVariants as owed
 
@@ -108,7 +109,7 @@ module _ (w : Seat) (is : IsHosts w.part w.log) where
   owes f e owed.Rst = (without_still f w.part.entries is.entries, is.replies)
   owes f e what = (replaced_still f _ w.part.entries is.entries, is.replies)
 
-  pub step_hosts : (step : Step) → MayDo step w → IsAsked WithHost step → IsHosts (after Device step w).part (after Device step w).log
+  pub step_hosts : (step : Step) → MayDo Device step w → IsAsked WithHost step → IsHosts (after Device step w).part (after Device step w).log
   step_hosts (Opens f kind) may host = record {
     entries = added f _ w.part.entries is.entries host;
     replies = is.replies;

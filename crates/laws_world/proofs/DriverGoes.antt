@@ -3,11 +3,11 @@ use Rattle.std.proofs.Common.{◌≡◌, ℕ, ◌≤◌, true, take, None, refl,
 use Rattle.vs_contents.specs.CallTree.{played}
 use Rattle.vs_flow.specs.Connection.{Connection}
 use Rattle.vs_limits.specs.declared.TheConstants.{HOST_CID}
-use Rattle.vs_page.specs.Log.{Log}
+use Rattle.vs_page.specs.Log.{Driver, Log}
 use Rattle.vs_ring_port.specs.{Contents.RingContents, DriverCalls.driver_answer, EndLog.EndLog, Lists.Rings}
-use Rattle.laws_tables.specs.{Both.Seat, Ends.Ends}
+use Rattle.laws_tables.{specs.{Both.Seat, Ends.Ends}, proofs.Going.Goes}
 use Rattle.vs_driver_parts.specs.{Playing.Plays, State.{DriverState}}
-use Rattle.laws_driver.proofs.{Putting.{connect_puts, owed_puts, reply_puts, send_puts}, Carrying.{Carries, Fact}, Going.Goes, Walking.poll_goes, Carried.Making.CarriesCall}
+use Rattle.laws_driver.proofs.{Putting.{connect_puts, owed_puts, reply_puts, send_puts}, Carrying.{Carries, Fact}, Walking.poll_goes, Carried.Making.CarriesCall}
 use Rattle.laws_driver.proofs.Carried.{Making.{account_after, at_first, call_goes, call_received, call_sent, further_as, further_journal, port_fits, sent_with}, Senders.sent_more}
 use Rattle.laws_driver.{proofs.Carried.{Senders.{step_says, still_sent}, Polling.{IsFurther, poll_carries}, Sending.{poll_puts, puts_as}}, specs.Honest.slots_of}
 use Rattle.laws_driver.specs.Carried.Calls.{Connect, GuestCall, Journal, LookAt, ReplyTo, Send, account_of, is_right, makes_call, with_call}
@@ -18,7 +18,7 @@ use Rattle.laws_world.proofs.Keeping.{Sees, call_kept, poll_kept}
 
 module _ (first : ℕ) (old : Seat) where
   abbrev pub Walks : Account → Fact → Fact → Fact
-  Walks a names sent part s log = Goes old (record { part = part; log = log }) × PutsFit log × IsFurther a (slots_of s) log × names part s log × sent part s log
+  Walks a names sent part s log = Goes Driver old (record { part = part; log = log }) × PutsFit log × IsFurther a (slots_of s) log × names part s log × sent part s log
 
   pub poll_walks : (a : Account) (s : DriverState) (base : Log) → Carries true first (Walks a (named_from s (LookAt 0)) (puts_as base))
   poll_walks a start base =
@@ -119,7 +119,7 @@ module _ (first : ℕ) (old : Seat) where
 
 -- What is left with a journal, of this driver and its journal, where ids had been given to these connections.
 pub record Left (old : Seat) (was : ℕ → Connection) (from : DriverState) (before journal : Journal) (part : Ends) (s : DriverState) (log : Log) : Type 0 where
-  pub goes : Goes old (record { part = part; log = log })
+  pub goes : Goes Driver old (record { part = part; log = log })
   pub fits : PutsFit log
   pub opened : ℕ → Connection
   -- Ids keep their connections.

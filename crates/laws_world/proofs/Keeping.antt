@@ -20,16 +20,13 @@ use Rattle.vs_driver_parts.proofs.{Packets.{first_under, others_left}, SameIds.p
 use Rattle.vs_wrap.specs.Wrap.{counted}
 use Rattle.laws_tables.specs.Steps.{is_kept}
 use Rattle.laws_driver.{specs.{Honest.IsFitState, Carried.Calls.{Accept, Close, Connect, Grow, GuestCall, Listen, LookAt, Recv, Send, Shutdown, Unlisten}}, proofs.Carrying.Carries}
+use Rattle.laws_driver.proofs.Sighting.{Small, poll_sees}
 use Rattle.laws_driver.proofs.{Carrying.Fact, Changing.close_changes, Carried.Making.CarriesCall}
 use Rattle.laws_world.proofs.Listeners.{AllIds}
 use Rattle.vs_driver_parts.specs.declared.answers.Grown.TheVariants as rise
 use Rattle.vs_conn.specs.declared.end.Owed.TheVariants as owed
 use Rattle.vs_conn.specs.declared.end.State.TheVariants as state
 use Rattle.vs_conn.specs.declared.end.Verdict.TheVariants as verdict
-
-packet_same : (v : Verdict) (p : Packet) (c : DriverConnection) → ((after_packet v p c).closed ≡ c.closed) × ((after_packet v p c).unanswered ≡ c.unanswered)
-packet_same verdict.Deliver p c = (refl, refl)
-packet_same _ p c = (refl, refl)
 
 -- A fact of the next id, of the table, of the connections that are gone and of who waits.
 abbrev pub Sight : Type 1
@@ -70,10 +67,6 @@ pub record IsKept (May : ℕ → Type 0) (P : Sight) : Type 0 where
   pub waiting : (port : ℕ) (s : DriverState) → Sees P s → AllIds May (waiting_on port s)
 
 module _ {May : ℕ → Type 0} (P : Sight) (kept : IsKept May P) where
-  list_kept : (b : Bool) (e : DriverEntry) (s : DriverState) → Sees P s → Sees P (cond b (waits_no_more e s) s)
-  list_kept true e s holds = kept.less e.flow.guest e.value.id s holds
-  list_kept false e s holds = holds
-
   leave_kept : (s : DriverState) (e : DriverEntry) (c : DriverConnection) → entry_under s.table e.slot ≡ Some e → StaysSame e.value c → Sees P s
       → Sees P (after_leaving (record e { value = c }) s)
   leave_kept s e c under same holds = by c.unanswered
@@ -92,59 +85,26 @@ module _ {May : ℕ → Type 0} (P : Sight) (kept : IsKept May P) where
   end_kept end e s under holds =
       kept.changes s e (record e.value { end = end }) under (record { id_is = refl; closed_is = refl; answered = λ is. is }) holds
 
-  -- What a connection owes is put.
-  pay_kept : (what : Owed) (e : DriverEntry) (s : DriverState) → entry_under s.table e.slot ≡ Some e → Sees P s → Sees P (after_paying what e s)
-  pay_kept owed.Rst e s under holds = leave_kept s e e.value under (as_it_was e.value) holds
+  -- A packet leaves a connection's id, and whether it is closed and answered.
+  heard_same : (v : Verdict) (p : Packet) (c : DriverConnection) → StaysSame c (after_packet v p c)
+  heard_same verdict.Deliver p c = record { id_is = refl; closed_is = refl; answered = λ is. is }
+  heard_same v p c = record { id_is = refl; closed_is = refl; answered = λ is. is }
+
+  pay_kept : (what : Owed) (e : DriverEntry) (s : DriverState) → entry_under s.table e.slot ≡ Some e → Sees P s
+      → Sees P (with_connection e.slot (paid_connection what e.value) s)
   pay_kept owed.Response e s under holds =
       kept.changes s e (paid_connection owed.Response e.value) under (record { id_is = refl; closed_is = refl; answered = λ is. refl }) holds
   pay_kept what e s under holds =
       kept.changes s e (paid_connection what e.value) under (record { id_is = refl; closed_is = refl; answered = λ is. is }) holds
 
-  -- A packet is got.
-  module _ (p : Packet) (s : DriverState) (sound : IsTable s.table) (holds : Sees P s) where
-    known_kept : (e : DriverEntry) → entry_under s.table e.slot ≡ Some e → (v : Verdict) → Sees P (after_verdict v p e s)
-    known_kept e under (verdict.Rst why) =
-        let t : DriverState = record s { broken = counted s.broken } in
-        list_kept e.value.unanswered e (with_connection e.slot (after_packet (verdict.Rst why) p e.value) t)
-        (kept.changes t e (after_packet (verdict.Rst why) p e.value) under (record { id_is = refl; closed_is = refl; answered = λ is. is }) holds)
-    known_kept e under v = by (ends_connection v p.header)
-      where
-        same : StaysSame e.value (after_packet v p e.value)
-        same =
-            let others = packet_same v p e.value in
-            record { id_is = packet_id v p e.value; closed_is = others.0; answered = λ is. others.1 ∙ is }
-
-        by : (b : Bool) → Sees P (cond b
-            (keeping (is_kept Driver e.flow e.value.end p) e.flow (after_leaving (record e { value = after_packet v p e.value }) s))
-            (with_connection e.slot (after_packet v p e.value) s))
-        by true = leave_kept s e (after_packet v p e.value) under same holds
-        by false = kept.changes s e (after_packet v p e.value) under same holds
-
-    unknown_kept : Sees P (on_unknown p s)
-    unknown_kept = grind (arith, common_steps)
-
-    packet_kept : Sees P (on_packet p s)
-    packet_kept = by (is_dropped Driver s.cid p.header)
-      where
-        heard : (o : Option DriverEntry) → entry_of s.table (flow_to_guest p.header) ≡ o
-            → Sees P (elim o as (λ _. DriverState) [ None ↦ on_unknown p s | Some e ↦ on_known p e s ])
-        heard None is = unknown_kept
-        heard (Some e) is = known_kept e (found_under _ s.table e sound is) _
-
-        by : (b : Bool) → Sees P (cond b s (on_heard p s))
-        by true = holds
-        by false = heard (entry_of s.table (flow_to_guest p.header)) refl
-
-  -- A transport reset: all leave.
-  all_left_kept : (es : List DriverEntry) (s : DriverState) → s.table.entries ≡ es → IsTable s.table → Sees P s → Sees P (all_left es s)
-  all_left_kept [] s is sound holds = holds
-  all_left_kept (e ∷ es) s is sound holds =
-      let R : List DriverEntry → Type 0 = λ xs. IsRising xs in
-      let rising : R (e ∷ es) = subst R is sound.rising in
-      let under = first_under s.table e sound (ap (λ (xs : List DriverEntry). slice_get xs 0) is) in
-      all_left_kept es (with_reply (reset_reply e) (after_leaving e s))
-      (ap (λ (xs : List DriverEntry). filter (λ x. not (x.slot == e.slot)) xs) is ∙ others_left e es rising)
-      (without_sound s.table e.slot sound) (leave_kept s e e.value under (as_it_was e.value) holds)
+  pub small_kept : Small (λ port. P)
+  small_kept = record {
+    pays = λ what e s stands owes holds. pay_kept what e s stands.under holds;
+    hears = λ v p e s stands is holds. kept.changes s e (after_packet v p e.value) stands.under (heard_same v p e.value) holds;
+    leaves = λ e s sound stands holds. leave_kept s e e.value stands.under (as_it_was e.value) holds;
+    ends = λ p e s sound stands holds. leave_kept s e (after_packet verdict.Peer p e.value) stands.under (heard_same verdict.Peer p e.value) holds;
+    asks = λ f h s may holds. kept.asks s f h holds;
+  }
 
   -- recv, shutdown, grow, close and unlisten.
   recv_kept : (id n : ℕ) (s : DriverState) → IsTable s.table → Sees P s → Sees P (after_recv id n s)
@@ -231,13 +191,15 @@ module _ {I : Type 0} (P : I → Sight) (May : I → ℕ → Type 0) (kept : (i 
   AllKept part s log = (i : I) → start i → Sees (P i) s
 
   pub poll_kept : (first : ℕ) → Carries true first AllKept
-  poll_kept first = record {
-    owed = λ what e s log fits stands owes m was fair held i x. pay_kept (P i) (kept i) what e s stands.under (held i x);
-    reply = λ r rest s log fits is m fair held. held;
-    got = λ p s log fits ports whole m was fair held i x. packet_kept (P i) (kept i) p s fits.sound (held i x);
-    event = λ id s log held. held;
-    reset = λ cid s log less fits held i x. all_left_kept (P i) (kept i) s.table.entries (record s { cid = cid; clean = of_host s.clean }) refl fits.sound (held i x);
-  }
+  poll_kept first =
+      let seen = λ (i : I). poll_sees (λ port. P i) (small_kept (P i) (kept i)) first in
+      record {
+        owed = λ what e s log fits stands owes m was fair held i x. (seen i).owed what e s log fits stands owes m was fair (held i x);
+        reply = λ r rest s log fits is m fair held. held;
+        got = λ p s log fits ports whole m was fair held i x. (seen i).got p s log fits ports whole m was fair (held i x);
+        event = λ id s log held. held;
+        reset = λ cid s log less fits held i x. (seen i).reset cid s log less fits (held i x);
+      }
 
   pub call_kept : (first : ℕ) (call : GuestCall) → ((i : I) → start i → MayMake (May i) call) → CarriesCall first call AllKept (λ reply. AllKept)
   call_kept first (Connect port) may = record {

@@ -10,7 +10,6 @@ pub mod Sound
 pub mod Opening
 pub mod Failing
 pub mod Carried
-pub mod Shutting
 pub mod GuestLines
 pub mod Polls
 pub mod DeviceLeads

@@ -25,7 +25,7 @@ use Rattle.laws_world.proofs.{Wire.first_fit, Keeping.Sees, Names.{StaysNamed, W
 use Rattle.laws_driver.specs.Carried.{Calls.{Journal, LookAt, is_right, makes_call, GuestCall, ReplyTo, account_of, with_call}, Received.Account, Senders.IsRightJournal}
 use Rattle.laws_driver.{specs.{Honest.{IsFitState, ends_of_state, slots_of}, Resets.MarksResets, Staged.IsLeft}, proofs.Carried.{Making.made_with, Polling.IsFurther}}
 use Rattle.laws_driver.proofs.{Carried.Sending.puts_as, Carrying.{Carries, Fact, Holds, IsTiedBy, RestsWith}, Stepping.{Works, owed_with, publish_with, reply_with, takes_with}}
-use Rattle.laws_driver.proofs.{Keeping.{Keeps, keeps_end, keeps_weaker}, Staging.{Rests, rests_tied, Ties as DriverTies}, Going.stays as seat_stays}
+use Rattle.laws_driver.proofs.{Keeping.{Keeps, keeps_end, keeps_weaker}, Staging.{Rests, rests_tied, Ties as DriverTies}}
 use Rattle.vs_flow.specs.{Connection.Connection, Table.Table}
 use Rattle.laws_device.{specs.{Carried.Streamed.{IsStreamed, Ports, ports_of}, Honest.{is_held, IsFitState as IsFitDevice}, Dropped.IsCounted}, proofs.Carried.Changing.StreamedIf}
 use Rattle.laws_device.proofs.{Carried.{Changing.listened_host, HostCalls.{client_host, same_host}, Hosts.{counts_still, unseen}}, Carrying.{IsToldBy, StreamedOver, With}, Chains.Among, Seats.Carried}
@@ -33,6 +33,7 @@ use Rattle.laws_device.proofs.{Seats.PutsFit, Keeping.{keeps_then, Keeps as Devi
 use Rattle.laws_device.proofs.{Dropping.{keeps_both, moving, publishes, tx_calls}, Walk.Fields.fields}
 use Rattle.vs_limits.specs.declared.TheConstants.{GUEST_CID_MIN, GUEST_CID_MAX, ASSIGNED_FIRST}
 use Rattle.vs_ring_list.{proofs.{Held.same_queue_is, Ties.{device_got, driver_got, tied-publish}}, specs.{Ends.device_contents, Sound.IsTied}}
+use Rattle.laws_tables.proofs.Going.{stays as seat_stays}
 use Rattle.laws_proxy.proofs.{Growing.{flow_grow_proxied, flow_grow_stays}, Shaking.{Goes-on, Turns, accepts, reads_byte, ticks}, Turning.{Proxied, proxy_reset_keeps}}
 use Rattle.laws_device.proofs.Walk.Keeping as moved
 use Rattle.laws_device.proofs.Walk.Single as one
@@ -196,7 +197,7 @@ module _ (fresh : Type 0) (w : World) (well : IsWell fresh w) where
   from_here call (Some x) from = from.0
 
   at_step : Holds step_fact w.driver guest.log
-  at_step = (seat_stays guest guest refl, well.driver_puts, further, from_here (LookAt 0), λ c. refl)
+  at_step = (seat_stays Driver guest guest refl, well.driver_puts, further, from_here (LookAt 0), λ c. refl)
 
   steps : Carries true first_cid step_fact
   steps = poll_walks first_cid guest account w.driver guest.log
@@ -240,7 +241,7 @@ module _ (fresh : Type 0) (w : World) (well : IsWell fresh w) where
       (keeps_weaker (λ x d. Rests true first_cid (after x.1) x.0 d) (λ x d. DriverTies true first_cid (after x.1) x.0 d) (λ x d rests. rests_tied true first_cid (after x.1) x.0 d rests)
       (makes_call call w.driver) (exposed rings)
       (made_with first_cid w.driver (exposed rings) call before after right (call_walks first_cid guest account w.driver guest.log call right)
-      (rests_at before none (seat_stays guest guest refl, well.driver_puts, further, from_here call, (refl, refl)))))
+      (rests_at before none (seat_stays Driver guest guest refl, well.driver_puts, further, from_here call, (refl, refl)))))
       (call_left first_cid guest well.opened w.journal w.driver guest.log well.right rings call _ _)
 
 -- The device plays one, and so does the proxy.
