@@ -177,6 +177,7 @@ impl Device {
     }
 
     // What the round does on the connection in a slot, as far as one look at it tells.
+    #[inline(always)]
     fn service(&self, slot: Slot, place: usize) -> Service
         ensures { IsServedSo (value_under self.now.table slot) result }
     {
@@ -561,9 +562,24 @@ impl Device {
         ensures counts { fill.new ≡ record fill.old { over = fill.new.over } }
         ensures calls { RunsOnRing (hold (filling_of self.old fill.old)) (R.contents ring.old) (filling_of self.new fill.new) (R.contents ring.new) }
     {
-        if self.chain.is_some() {
-            return;
+        if self.chain.is_none() {
+            self.hold_next(ring, fill);
         }
+    }
+
+    // Holds the next chain of the receive queue, where none is held. Apart, so that a chain that is held already costs one test.
+    #[inline(always)]
+    fn hold_next<R: DeviceRing>(&mut self, ring: &mut R, fill: &mut Fill)
+        requires ring { IsAmong (R.held ring.old) self.old }
+        requires none { self.old.chain ≡ None }
+        requires going { fill.old.over ≡ false }
+        ensures ring { IsAmong (R.held ring.new) self.new }
+        ensures beside { beside self.new.chain (R.held ring.new) ≡ beside self.old.chain (R.held ring.old) }
+        ensures over { fill.new.over ≡ not (is_some self.new.chain) }
+        ensures others { self.new ≡ record self.old { chain = self.new.chain; failed = self.new.failed } }
+        ensures counts { fill.new ≡ record fill.old { over = fill.new.over } }
+        ensures calls { RunsOnRing (hold (filling_of self.old fill.old)) (R.contents ring.old) (filling_of self.new fill.new) (R.contents ring.new) }
+    {
         match ring.next(Queue::Rx) {
             Next::Chain(chain) => self.chain = Some(chain),
             Next::None => fill.over = true,

@@ -359,6 +359,7 @@ impl Connection {
     }
 
     /// What the round over all connections does on it, where it owes no packet.
+    #[inline(always)]
     pub fn service(&self) -> Service
         requires none { owes_of self.now.end ≡ None }
         ensures { IsServedSo (Some self.now) result }

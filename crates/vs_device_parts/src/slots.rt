@@ -166,6 +166,7 @@ impl Slots {
     }
 
     /// What the round over all connections does on the one in a slot, as far as one look tells at the place where it stands if none went before.
+    #[inline(always)]
     pub fn service(&self, slot: Slot, place: usize) -> Service
         ensures { IsServedSo (value_under self.now slot) result }
     {

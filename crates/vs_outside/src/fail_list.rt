@@ -39,13 +39,20 @@ impl FailList {
     }
 
     /// Whether the call that is made now is to fail. It is used up.
+    #[inline(always)]
     pub fn call(&mut self) -> bool
         ensures answer { result ≡ fails_next self.old }
         ensures after { self.new ≡ counted_down self.old }
     {
-        if self.calls.is_empty() {
-            return false;
-        }
+        !self.calls.is_empty() && self.use_up()
+    }
+
+    // The same, where a call is to fail.
+    #[cold]
+    fn use_up(&mut self) -> bool
+        ensures answer { result ≡ fails_next self.old }
+        ensures after { self.new ≡ counted_down self.old }
+    {
         let fails = self.calls.contains(&1);
         keep_later(&mut self.calls);
         count_down(&mut self.calls);

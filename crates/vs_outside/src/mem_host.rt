@@ -254,6 +254,7 @@ impl MemHost {
     }
 
     /// Counts the accept, dial, read or write that is made now. Answers whether it is to fail, and counts that fault.
+    #[inline(always)]
     fn fails(&mut self) -> bool
         ensures answer { result ≡ fails_now self.old.contents }
         ensures after { self.new ≡ after_call result self.old }
