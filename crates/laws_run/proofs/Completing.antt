@@ -15,7 +15,7 @@ use Rattle.vs_driver_parts.specs.declared.answers.Polled.{Polled}
 use Rattle.vs_device_parts.specs.{Playing.situation, State.DeviceEntry, Turns.table_shown as device_shown, Receiving.may_read}
 use Rattle.vs_proxy_parts.specs.State.{ProxyState}
 use Rattle.laws_tables.{specs.{Ends.{ends_of, flows_of, is_among}, Drains.{receives, receives_in}}, proofs.Slots.{found_by, one_end}}
-use Rattle.laws_driver.specs.{Honest.{IsFitEntry, end_in as driver_end, slots_of}, Carried.{Calls.{GuestCall, Journal, received_by, account_of}, Received.ReceivesOn}}
+use Rattle.laws_driver.{specs.{Honest.{IsFitEntry, end_in as driver_end, slots_of}, Carried.{Calls.{GuestCall, Journal, received_by, account_of}, Received.ReceivesOn}}, proofs.Carried.Receiving.keeps_receiving}
 use Rattle.laws_device.specs.{Honest.end_in as device_end, Streams.is_open_in, Carried.Streamed.{IsStreamed, connection_of, ports_of}}
 use Rattle.laws_proxy.specs.Honest.{IsProxyStreamed}
 use Rattle.laws_rest.{specs.Rest.{ArePaired, over_half}, proofs.{Quiet.in_list, Waiting.{credit_there, unread_there}}}
@@ -275,7 +275,7 @@ module _ (script : RunScript) (driver : DriverState) (end : Sight) (apps : List 
         let held = on_id x within in
         let present : opened id ≡ current Driver x.flow end.log = subst (λ (i : ℕ). opened i ≡ current Driver x.flow end.log) named held.present in
         let some = subst (λ (c : Connection). 1 ≤ c.number) (sym present) held.some in
-        let came : received_by x.value.id journal ++ x.value.unread ≡ payload_got Driver (current Driver x.flow end.log) end.log = held.drains.whole gets in
+        let came : received_by x.value.id journal ++ x.value.unread ≡ payload_got Driver (current Driver x.flow end.log) end.log = held.drains.whole (keeps_receiving x.value gets) in
         subst (λ (i : ℕ). received_by id journal ≡ received_by i journal) (sym named) refl
         ∙ sym (append-nil (received_by x.value.id journal)) ∙ ap (λ (bs : List ℕ). received_by x.value.id journal ++ bs) (sym unread) ∙ came
         ∙ ap (λ (c : Connection). payload_got Driver c end.log) (sym present)

@@ -1,6 +1,6 @@
 -- A poll keeps the account, with the ids of the connections that it opens.
 use Rattle.laws_tables.proofs.{Adding.{number_got, number_put, got_over_put, got_adds}, Fair.{got_goes_on, got_not_refused, heard_all}, Slots.found_by, Tables.driver_begun}
-use Rattle.laws_tables.{proofs.{Fair.own_got_fair, OnFlow.end_follows, Goes.{Goes, comes_in, only_delivered, stays_still}}, specs.{Drains.{only_on, receives}, Ends.is_new}}
+use Rattle.laws_tables.{proofs.{Fair.own_got_fair, OnFlow.end_follows, Goes.{Goes, comes_in, delivers_to, only_delivered, stays_still}}, specs.{Drains.{only_on, receives}, Ends.is_new}}
 use Rattle.laws_tables.specs.{Ends.{Ends, ends_of, is_among, replied}, Heard.heard_of, Later.IsLater, Matches.{Matches, MatchesFlows}, Steps.{HasEnd, owed_on, reply_on, is_kept}}
 use Rattle.std.proofs.Common.{◌≡◌, ◌≢◌, ℕ, ◌+◌, ◌<◌, ◌≤◌, ◌==◌, ◌&&◌, not, ◌⊎◌, inl, inr, Bool, true, false, cond, List, [], ◌∷◌, ◌++◌, Contains, Option, Some, None, refl, sym, ap, subst, ◌∙◌}
 use Rattle.std.{proofs.{Common.arith, lemmas.{Bool.Decides.nat_tests, Grind.common_steps, List.Elements.All-contains}}, specs.List.{All, filter, slice_get}}
@@ -8,7 +8,6 @@ use Rattle.vs_conn.specs.{End.{ConnectionEnd, answering, end_after, is_refused, 
 use Rattle.vs_conn.proofs.Frames.{got_own}
 use Rattle.vs_flow.specs.{Connection.Connection, CleanPairs.of_host, Flow.{host_asks, same_flow}, Table.{IsRising, IsTable, entry_of, without, Table}, declared.flow.Flow.Flow}
 use Rattle.vs_flow.proofs.Entries.{none_found, same_flow_false}
-use Rattle.vs_header.specs.declared.Header.{Header}
 use Rattle.vs_limits.specs.declared.TheConstants.{BUF_ALLOC, HOST_CID}
 use Rattle.laws_history.specs.{declared.packet.Packet.Packet, Packets.{has_both, is_rw}, Again.count, History.{Answerer, Asker, Got, History, MayPut, Side, gots, puts}}
 use Rattle.vs_page.specs.{Fair.{IsFairLog, asked_by, current, number_of, payload_got, payload_of}, Held.IsWhole, Log.{Driver, Log, and_then, flow_got, history_of, side_by}}
@@ -23,7 +22,7 @@ use Rattle.laws_driver.{specs.{Honest.{IsFitState, ends_of_state, slots_of}, Car
 use Rattle.laws_driver.{specs.Carried.Received.{ends_with, keeps_all, with_opened}, proofs.Carrying.{Carries, Fact}}
 use Rattle.laws_driver.proofs.{Tabling.{Stands, entry_fits, has_end, leaves}, Resetting.{first_contained, with_cid}, Taking.with_reply_fits, Carried.Changing.puts_and_alters}
 use Rattle.laws_driver.proofs.Carried.{Logging.{leaves_received, opened_goes_on, opened_received, passes_by, same_received}, Reading.given_none, Receiving.changed_received}
-use Rattle.laws_driver.proofs.Carried.Receiving.{Keeps, in_clean}
+use Rattle.laws_driver.proofs.Carried.Receiving.{Keeps, in_clean, keeps_receiving}
 use Rattle.vs_header.specs.declared.Kind.TheVariants.{Stream}
 use Rattle.vs_conn.specs.declared.end.Owed.TheVariants as owed
 use Rattle.vs_conn.specs.declared.end.Verdict.TheVariants as verdict
@@ -81,12 +80,10 @@ pays_received : (what : Owed) (first : ℕ) (a : Account) (e : DriverEntry) (s :
 pays_received owed.Request first a e s log fits stands owes m x =
     let both : true ≡ false = sym (new_by e.value.end owes) ∙ driver_begun first (ends_of_state s) log e.flow e.value.end m.flows (has_end s e fits stands) in absurd cc
 pays_received owed.Rst first a e s log fits stands owes m x =
-    let has = has_end s e fits stands in
-    let host = (entry_fits s e fits stands).peer refl in
     puts_received a (owed_on Driver s.cid e.flow e.value.end owed.Rst) log (slots_of (after_leaving e s)) refl
     (leaving_received a log s e e.value.end refl fits.sound stands.contains
-    (λ unclosed over. ends_both e.flow log
-    (clean_got first (ends_of_state s) log e.flow e.value.end m.flows has host (over unclosed (owes_over e.value.end owes)))) x)
+    (λ unclosed over. ends_both e.flow log (clean_got first (ends_of_state s) log e.flow e.value.end m.flows (has_end s e fits stands)
+    ((entry_fits s e fits stands).peer refl) (over unclosed (owes_over e.value.end owes)))) x)
 pays_received what first a e s log fits stands owes m x =
     puts_and_alters a log s x (owed_on Driver s.cid e.flow e.value.end what) e (paid_connection what e.value) refl fits.sound stands.contains refl
     (stays_still (keeps_all e.value) (keeps_all (paid_connection what e.value)) e.value.unread [] (paid_keeps what e.value owes).0 (λ on. refl))
@@ -110,9 +107,6 @@ all_leave a cid log (e ∷ es) s is fits x =
 -- A packet is got, of a connection of the table.
 got_keeps : (p : Packet) (c : DriverConnection) → is_refused (verdict_of c.end p.header) ≡ false → Keeps c (record c { end = end_after c.end p.header })
 got_keeps p c kept = (λ is. grind (arith, common_steps, is), λ over unclosed is. grind (arith, common_steps, kept, over, unclosed, is))
-
-keeps_delivered : (c : DriverConnection) (h : Header) → verdict_of c.end h ≡ verdict.Deliver → keeps_all c ≡ true
-keeps_delivered c h is = grind (arith, common_steps, is)
 
 rst_ends : (f : Flow) (p : Packet) (log : Log) → same_flow f (flow_got Driver p) ≡ true → is_reset p.header ≡ true → ends_with f (GotPacket p ∷ log) ≡ true
 rst_ends f p log same is = grind (arith, common_steps, same, is)
@@ -190,7 +184,7 @@ module _ (first : ℕ) (a : Account) (p : Packet) (e : DriverEntry) (s : DriverS
   by_verdict verdict.Peer is taken = peers (is_reset p.header) is refl
   by_verdict verdict.Deliver is taken =
       hears (e.value.unread ++ p.payload)
-      (comes_in (keeps_all e.value) (keeps_all (its (e.value.unread ++ p.payload))) e.value.unread p.payload (keeps_delivered e.value p.header is))
+      (comes_in (keeps_all e.value) (keeps_all (its (e.value.unread ++ p.payload))) e.value.unread p.payload (keeps_receiving e.value (delivers_to e.value.end p.header is)))
   by_verdict v is taken = hears e.value.unread (unmoved v is taken (λ (q : v ≡ verdict.Deliver). cc))
 
   pub known_received : AreReceived a (GotPacket p ∷ log) (slots_of (on_known p e s))

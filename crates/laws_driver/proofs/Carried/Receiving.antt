@@ -1,7 +1,7 @@
 -- What an application received, through each change of a connection.
-use Rattle.laws_tables.{specs.{Drains.{only_on, Drains}, Later.IsLater}, proofs.{Changes.{changed, under_slot}, Later.later_then, Logs.{longer, shorter}, Goes.Goes}}
+use Rattle.laws_tables.{specs.{Drains.{only_on, Drains, receives}, Later.IsLater}, proofs.{Changes.{changed, under_slot}, Later.later_then, Logs.{longer, shorter}, Goes.Goes}}
 use Rattle.std.proofs.Common.{◌≡◌, ◌≢◌, ℕ, ◌<◌, ◌≤◌, ◌==◌, ◌&&◌, not, Bool, true, false, cond, List, [], ◌++◌, length, get_or, Contains, refl, sym, ap, subst, ◌∙◌, arith, append-nil}
-use Rattle.std.{proofs.{Math.Path.fun_ext, lemmas.{Bool.Decides.nat_tests, List.Elements.All-contains}}, specs.List.All}
+use Rattle.std.{proofs.{Math.Path.fun_ext, lemmas.{Bool.Decides.nat_tests, Grind.common_steps, List.Elements.All-contains}}, specs.List.All}
 use Rattle.vs_flow.{specs.{Connection.Connection, Table.IsTable, declared.flow.Flow.Flow}, proofs.Entries.same_flow_false}
 use Rattle.vs_page.{specs.{Fair.{IsPrefixOf, current, number_of, payload_got}, Log.{Driver, Log}}, proofs.{Flows.same_self}}
 use Rattle.vs_driver_parts.{specs.{State.{DriverConnection, DriverEntry, GoneConnection}, Held.{HeldSlots, with_connection_in}, SlotFields.AreNumbered}, proofs.Ids.HasId}
@@ -42,6 +42,9 @@ number_same n = grind (arith, nat_tests)
 -- What a step of a connection keeps.
 abbrev pub Keeps : DriverConnection → DriverConnection → Type 0
 Keeps c k = (keeps_all k ≡ true → keeps_all c ≡ true) × (EndsClean c → EndsClean k)
+
+pub keeps_receiving : (c : DriverConnection) → receives c.end ≡ true → keeps_all c ≡ true
+keeps_receiving c is = grind (arith, common_steps, is)
 
 -- What was delivered to a connection that is gone stays, whatever comes besides.
 pub drains_on : (all : Bool) (out held : List ℕ) (c : Connection) (log new : Log) → IsLater log new → DrainsTo all out held c log → DrainsTo all out held c new

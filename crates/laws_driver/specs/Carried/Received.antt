@@ -41,7 +41,8 @@ bytes_got _ unread = []
 abbrev pub after_receive : ℕ → ℕ → DriverState → Account → Account
 after_receive id n s a = with_received id (bytes_got (recv_of id n s) (unread_of_id id s)) a
 
--- No payload of a flow's present connection is delivered after this log: its peer put an RST or both SHUTDOWN bits, or a transport reset came last.
+-- A flow's present connection ended with this log: its peer put an RST or both SHUTDOWN bits, which no payload follows, or a transport reset
+-- came last, after which none is delivered.
 abbrev pub resets : Log → Bool
 resets (Mark cid ∷ log) = true
 resets _ = false
@@ -49,11 +50,11 @@ resets _ = false
 abbrev pub ends_with : Flow → Log → Bool
 ends_with f log = let got = gots (history_of Driver f log) in resets log || (has is_rst got || has_both got)
 
--- Nothing is dropped of what comes in: the application didn't say that it receives no more, and no close aborted the connection.
+-- Nothing of what is got is dropped: the application didn't say that it receives no more, and no close aborted the connection.
 abbrev pub keeps_all : DriverConnection → Bool
 keeps_all c = not (c.closed && not (is_open c.end.state) || c.end.own.receive)
 
--- It is over, and its RST owed, only after a close, or once its peer neither sends nor receives and nothing is unread.
+-- Its RST is owed only after a close, or cleanly: its peer neither sends nor receives, and nothing is unread.
 abbrev pub EndsClean : DriverConnection → Type 0
 EndsClean c = c.closed ≡ false → c.end.state ≡ Ended → c.end.clean ≡ true
 
@@ -65,7 +66,8 @@ pub record ReceivesOn (a : Account) (log : Log) (e : DriverEntry) : Type 0 where
   pub drains : Drains (keeps_all e.value) (a.received e.value.id) e.value.unread (payload_got Driver (current Driver e.flow log) log)
   pub over : EndsClean e.value
 
--- One that is gone is a connection of its flow, the present one or an older one. The same is so of it by the front of the log with which it ended.
+-- One that is gone is a connection of its flow, the present one or an older one. What was received on it, and then the bytes that are unread,
+-- is the payload that was got on it until it ended, however it did, unless its application said that it receives no more; and then a prefix.
 abbrev pub DrainsTo : Bool → List ℕ → List ℕ → Connection → Log → Type 0
 DrainsTo all out held c log = (front : Log) × IsLater front log × (c ≡ current Driver c.flow front) × (ends_with c.flow front ≡ true)
     × Drains all out held (payload_got Driver c front)
