@@ -20,6 +20,7 @@ use Rattle.vs_replies.specs.Owed.{reply_to}
 use Rattle.vs_wrap.specs.Wrap.{counted}
 use Rattle.laws_tables.specs.Steps.{is_kept}
 use Rattle.laws_driver.{specs.{Honest.IsFitState, Carried.Calls.{Accept, Close, Connect, Grow, GuestCall, Listen, LookAt, Recv, Send, Shutdown, Unlisten}}, proofs.Carrying.Carries}
+use Rattle.laws_driver.proofs.Calling.{close_to, grow_to, recv_to, shutdown_to}
 use Rattle.laws_driver.proofs.Sighting.{Small, poll_sees}
 use Rattle.laws_driver.proofs.{Carrying.Fact, Changing.close_changes, Carried.Making.CarriesCall}
 use Rattle.laws_world.proofs.Listeners.{AllIds}
@@ -108,57 +109,22 @@ module _ {May : ℕ → Type 0} (P : Sight) (kept : IsKept May P) where
 
   -- recv, shutdown, grow, close and unlisten.
   recv_kept : (id n : ℕ) (s : DriverState) → IsTable s.table → Sees P s → Sees P (after_recv id n s)
-  recv_kept id n s sound holds = by (entry_known_as id s) refl
-    where
-      read : (b : Bool) (e : DriverEntry) → entry_under s.table e.slot ≡ Some e → Sees P (cond b s (with_connection e.slot (after_read n e.value) s))
-      read true e under = holds
-      read false e under =
-          kept.changes s e (after_read n e.value) under (record { id_is = refl; closed_is = refl; answered = λ is. is }) holds
-
-      by : (o : Option DriverEntry) → entry_known_as id s ≡ o
-          → Sees P (elim o as (λ _. DriverState) [ Some e ↦ entry_read n e s | None ↦ record s { gone = all_gone_after_read id n s.gone } ])
-      by None is = kept.reads id n s holds
-      by (Some e) is = read (length e.value.unread == 0) e (found_under (is_known_as id) s.table e sound is)
+  recv_kept id n s sound holds = recv_to (Sees P) id s holds n (λ e is.
+      kept.changes s e (after_read n e.value) (found_under (is_known_as id) s.table e sound is) (record { id_is = refl; closed_is = refl; answered = λ is. is }) holds)
+      (kept.reads id n s holds)
 
   shutdown_kept : (id bits : ℕ) (s : DriverState) → IsTable s.table → Sees P s → Sees P (after_shutdown id bits s)
-  shutdown_kept id bits s sound holds = by (entry_known_as id s) refl
-    where
-      shut : (st : State) (e : DriverEntry) → entry_under s.table e.slot ≡ Some e → Sees P (shut_in st bits e s)
-      shut state.Live e under =
-          kept.changes s e (after_shut bits e.value) under (record { id_is = refl; closed_is = refl; answered = λ is. is }) holds
-      shut _ e under = holds
-
-      by : (o : Option DriverEntry) → entry_known_as id s ≡ o
-          → Sees P (elim o as (λ _. DriverState) [ Some e ↦ shut_in e.value.end.state bits e s | None ↦ s ])
-      by None is = holds
-      by (Some e) is = shut e.value.end.state e (found_under (is_known_as id) s.table e sound is)
+  shutdown_kept id bits s sound holds = shutdown_to (Sees P) id s holds bits (λ e is.
+      kept.changes s e (after_shut bits e.value) (found_under (is_known_as id) s.table e sound is) (record { id_is = refl; closed_is = refl; answered = λ is. is }) holds)
 
   grow_kept : (id alloc : ℕ) (s : DriverState) → IsTable s.table → Sees P s → Sees P (after_grow id alloc s)
-  grow_kept id alloc s sound holds = by (entry_known_as id s) refl
-    where
-      grow : (a : Grown) (e : DriverEntry) → entry_under s.table e.slot ≡ Some e → Sees P (grown_by a alloc e s)
-      grow rise.Done e under = end_kept (grown e.value.end alloc) e s under holds
-      grow _ e under = holds
-
-      by : (o : Option DriverEntry) → entry_known_as id s ≡ o
-          → Sees P (elim o as (λ _. DriverState) [ Some e ↦ grown_by (entry_grow_answer alloc e) alloc e s | None ↦ s ])
-      by None is = holds
-      by (Some e) is = grow (entry_grow_answer alloc e) e (found_under (is_known_as id) s.table e sound is)
+  grow_kept id alloc s sound holds =
+      grow_to (Sees P) id s holds alloc (λ e is done. end_kept (grown e.value.end alloc) e s (found_under (is_known_as id) s.table e sound is) holds)
 
   close_kept : (id : ℕ) → May id → (s : DriverState) → IsTable s.table → Sees P s → Sees P (after_close id s)
-  close_kept id may s sound holds = by (entry_known_as id s) refl
-    where
-      gone_by : (o : Option GoneConnection) → Sees P (elim o as (λ _. DriverState) [
-        | None ↦ s
-        | Some g ↦ record s { gone = without_gone id s.gone; listeners = with_waiting g.flow.guest (without_id id) s.listeners }
-      ])
-      gone_by None = holds
-      gone_by (Some g) = kept.less g.flow.guest id (record s { gone = without_gone id s.gone }) (kept.forgets id may s holds)
-
-      by : (o : Option DriverEntry) → entry_known_as id s ≡ o → Sees P (elim o as (λ _. DriverState) [ Some e ↦ entry_closed e s | None ↦ gone_closed id s ])
-      by None is = gone_by (gone_known_as id s)
-      by (Some e) is =
-          kept.less e.flow.guest e.value.id (with_connection e.slot (after_closing e.value.end.state e.value) s) (kept.closes id may s e sound is holds)
+  close_kept id may s sound holds = close_to (Sees P) id s holds
+      (λ e is. kept.less e.flow.guest e.value.id (with_connection e.slot (after_closing e.value.end.state e.value) s) (kept.closes id may s e sound is holds))
+      (λ g. kept.less g.flow.guest id (record s { gone = without_gone id s.gone }) (kept.forgets id may s holds))
 
   closes_kept : (ids : List ℕ) → AllIds May ids → (s : DriverState) → IsFitState true s → Sees P s → Sees P (all_closed ids s)
   closes_kept [] may s fits holds = holds
