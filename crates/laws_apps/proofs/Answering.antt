@@ -23,46 +23,13 @@ use Rattle.laws_driver.proofs.{Staging.Rests, Carried.{Growing.honest_stays, Mak
 use Rattle.laws_rest.proofs.Quiet.{ends_any, ends_then}
 use Rattle.vs_apps_parts.specs.{Journals.made_as, Told.{told_of, wait_of}, declared.journal.{Entry.Entry, WaitsFor.WaitsFor}}
 use Rattle.laws_apps.specs.{Given.{AreGiven, AreGivenWith, ConnectTells, TellsGiven, heard_by, is_heard}, Placed.{ArePlaced, ArePlacedWith, IsAsked, IsClients, IsPlaced}}
-use Rattle.laws_apps.{specs.Placed.{IsPlacedEntry, IsPlacedGone, IsTo, accepted_as, asked_as, given_by, waits_at, was_closed, was_given}, proofs.Placed.{one_of, or_first}}
+use Rattle.laws_apps.{specs.Placed.{IsPlacedEntry, IsPlacedGone, IsTo, accepted_as, asked_as, given_by, waits_at, was_closed, was_given}, proofs.Placed.{changed, one_of, or_first, other_listener, own_listener}}
 use Rattle.laws_apps.proofs.{Placed.or_second, Placing.{IsOfApps, NamesAsked, noted}, Tracing.found_gone}
 use Rattle.vs_conn.specs.declared.end.Verdict.TheVariants as verdict
 use Rattle.vs_driver_parts.specs.declared.answers.Accepted.TheVariants as accepted
 use Rattle.vs_driver_parts.specs.declared.answers.ConnectError.TheVariants as refused
 use Rattle.vs_driver_parts.specs.declared.answers.ListenError.TheVariants as unheard
 use Rattle.vs_driver_parts.specs.declared.answers.Sent.TheVariants as sent
-
--- The listener on a port, where the waiting of one changes.
-abbrev changed : (List ℕ → List ℕ) → Listener → Listener
-changed change l = record l { waiting = change l.waiting }
-
-other_listener : (p q : ℕ) (change : List ℕ → List ℕ) → (p == q) ≡ false → (ls : List Listener) → listener_on p (with_waiting q change ls) ≡ listener_on p ls
-other_listener p q change other [] = refl
-other_listener p q change other (l ∷ ls) = by (other_listener p q change other ls) (l.port == q) refl
-  where
-    own : listener_on p (with_waiting q change ls) ≡ listener_on p ls → (x : Listener) (b : Bool) → (b ≡ true → x ≡ l)
-        → cond b (Some x) (listener_on p (with_waiting q change ls)) ≡ cond b (Some l) (listener_on p ls)
-    own rest x true same = ap (λ (y : Listener). Some y) (same refl)
-    own rest x false same = rest
-
-    differ : (l.port == q) ≡ true → (l.port == p) ≡ true → changed change l ≡ l
-    differ at is =
-        let same : p ≡ q = sym (eqb-true l.port p is) ∙ eqb-true l.port q at in
-        absurd (let no : true ≡ false = sym (eq-eqb p q same) ∙ other in cc)
-
-    by : listener_on p (with_waiting q change ls) ≡ listener_on p ls → (a : Bool) → (l.port == q) ≡ a
-        → listener_on p (cond a (changed change l) l ∷ with_waiting q change ls) ≡ listener_on p (l ∷ ls)
-    by rest true at = own rest (changed change l) (l.port == p) (differ at)
-    by rest false at = own rest l (l.port == p) (λ is. refl)
-
-own_listener : (q : ℕ) (change : List ℕ → List ℕ) (ls : List Listener)
-    → listener_on q (with_waiting q change ls) ≡ option_map (changed change) (listener_on q ls)
-own_listener q change [] = refl
-own_listener q change (l ∷ ls) = by (own_listener q change ls) (l.port == q) refl
-  where
-    by : listener_on q (with_waiting q change ls) ≡ option_map (changed change) (listener_on q ls) → (a : Bool) → (l.port == q) ≡ a
-        → listener_on q (cond a (changed change l) l ∷ with_waiting q change ls) ≡ option_map (changed change) (cond a (Some l) (listener_on q ls))
-    by rest true at = ap (λ (b : Bool). cond b (Some (changed change l)) (listener_on q (with_waiting q change ls))) at
-    by rest false at = ap (λ (b : Bool). cond b (Some l) (listener_on q (with_waiting q change ls))) at ∙ rest
 
 still_heard : (p q : ℕ) (change : List ℕ → List ℕ) (ls : List Listener) → is_some (listener_on p ls) ≡ true → is_some (listener_on p (with_waiting q change ls)) ≡ true
 still_heard p q change ls is = by (p == q) refl

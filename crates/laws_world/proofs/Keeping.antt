@@ -1,32 +1,24 @@
 -- A fact of the driver's connections and of who waits, through each of the driver's steps and each call of the guest's: it is kept where small
 -- changes keep it.
-use Rattle.std.proofs.Common.{◌≡◌, ℕ, ◌==◌, ◌&&◌, Bool, true, false, not, cond, List, [], ◌∷◌, ◌++◌, length, filter, Option, Some, None, is_some, Result, Ok, Err, refl, ap, subst}
-use Rattle.std.{proofs.Common.◌∙◌, specs.List.slice_get}
-use Rattle.vs_conn.specs.{End.{ConnectionEnd, grown, is_reset}, declared.end.{Owed.Owed, State.State, Verdict.Verdict}}
-use Rattle.vs_flow.{specs.{CleanPairs.of_host, Table.{IsRising, IsTable, Table, entry_of, entry_under, without}, declared.flow.Flow.Flow}, proofs.Tables.without_sound}
+use Rattle.std.proofs.Common.{◌≡◌, ℕ, Bool, true, false, cond, List, [], ◌∷◌, ◌++◌, Option, Some, None, is_some, Result, Ok, Err, refl}
+use Rattle.vs_conn.specs.{End.{ConnectionEnd, grown}, declared.end.{Owed.Owed, Verdict.Verdict}}
+use Rattle.vs_flow.specs.{Table.{IsTable, Table, entry_under, without}, declared.flow.Flow.Flow}
 use Rattle.vs_limits.specs.declared.TheConstants.{HOST_CID}
 use Rattle.vs_header.specs.declared.Header.{Header}
 use Rattle.laws_history.specs.declared.packet.Packet.{Packet}
-use Rattle.vs_page.specs.{Log.{Driver, flow_to_guest}, Open.is_dropped}
-use Rattle.vs_driver_parts.specs.{State.{DriverConnection, DriverEntry, DriverState, GoneConnection, Listener, entry_known_as, gone_known_as, is_known_as}, Connections.after_close}
-use Rattle.vs_driver_parts.specs.Connections.{after_closing, after_grow, after_leaving, after_read, after_recv, after_shut, after_shutdown, entry_grow_answer, grown_by}
-use Rattle.vs_driver_parts.specs.Connections.{after_unlisten, all_closed, all_gone_after_read, entry_closed, entry_read, gone_as, gone_closed, is_let_go, keeping, next_flow}
-use Rattle.vs_driver_parts.specs.Connections.{paid_connection, shut_in, waiting_on, waits_no_more, with_connection, with_end, with_opened, with_request, without_gone}
-use Rattle.vs_driver_parts.specs.{Connections.without_listener, declared.answers.{Grown.Grown, ListenError.ListenError}, Receiving.{after_packet, after_verdict, all_left}}
-use Rattle.vs_driver_parts.specs.{Receiving.{ends_connection, is_request, may_open, on_heard, on_known, on_packet, on_unknown, reset_reply, with_reply}, Listening.listen_of}
-use Rattle.vs_driver_parts.{specs.{Listening.{listener_on, listening, next_accepted, with_port, with_waiting, without_id}, Conversations.after_paying}, proofs.Ids.found_under}
-use Rattle.vs_driver_parts.proofs.{Packets.{first_under, others_left}, SameIds.packet_id}
-use Rattle.vs_replies.specs.Owed.{reply_to}
-use Rattle.vs_wrap.specs.Wrap.{counted}
-use Rattle.laws_tables.specs.Steps.{is_kept}
+use Rattle.vs_driver_parts.specs.{State.{DriverConnection, DriverEntry, DriverState, GoneConnection, Listener, entry_known_as, is_known_as}, Connections.after_close}
+use Rattle.vs_driver_parts.specs.Connections.{after_closing, after_grow, after_leaving, after_read, after_recv, after_shut, after_shutdown}
+use Rattle.vs_driver_parts.specs.Connections.{after_unlisten, all_closed, all_gone_after_read, gone_as, is_let_go, next_flow}
+use Rattle.vs_driver_parts.specs.Connections.{paid_connection, waiting_on, waits_no_more, with_connection, with_end, with_opened, with_request, without_gone}
+use Rattle.vs_driver_parts.specs.{Connections.without_listener, declared.answers.ListenError.ListenError, Receiving.after_packet}
+use Rattle.vs_driver_parts.specs.Listening.{listen_of}
+use Rattle.vs_driver_parts.{specs.Listening.{listener_on, listening, next_accepted, with_port, with_waiting, without_id}, proofs.Ids.found_under}
 use Rattle.laws_driver.{specs.{Honest.IsFitState, Carried.Calls.{Accept, Close, Connect, Grow, GuestCall, Listen, LookAt, Recv, Send, Shutdown, Unlisten}}, proofs.Carrying.Carries}
 use Rattle.laws_driver.proofs.Calling.{close_to, grow_to, recv_to, shutdown_to}
 use Rattle.laws_driver.proofs.Sighting.{Small, poll_sees}
 use Rattle.laws_driver.proofs.{Carrying.Fact, Changing.close_changes, Carried.Making.CarriesCall}
 use Rattle.laws_world.proofs.Listeners.{AllIds}
-use Rattle.vs_driver_parts.specs.declared.answers.Grown.TheVariants as rise
 use Rattle.vs_conn.specs.declared.end.Owed.TheVariants as owed
-use Rattle.vs_conn.specs.declared.end.State.TheVariants as state
 use Rattle.vs_conn.specs.declared.end.Verdict.TheVariants as verdict
 
 -- A fact of the next id, of the table, of the connections that are gone and of who waits.
