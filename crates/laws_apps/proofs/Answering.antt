@@ -1,77 +1,35 @@
 -- Calls and polls keep what a journal's calls were given, against the driver's next id and its listeners.
-use Rattle.std.proofs.Common.{◌≡◌, ◌⊎◌, inl, inr, ℕ, ◌+◌, ◌<◌, ◌≤◌, ◌==◌, ◌&&◌, ◌||◌, nat_le, not, Bool, true, false, cond, List, [], ◌∷◌, ◌++◌, length, find, take, Option, Some}
+use Rattle.std.proofs.Common.{◌≡◌, ◌⊎◌, inl, inr, ℕ, ◌+◌, ◌<◌, ◌≤◌, ◌==◌, ◌||◌, nat_le, not, Bool, true, false, cond, List, [], ◌∷◌, ◌++◌, length, find, take, Option, Some}
 use Rattle.std.proofs.{Common.{None, is_some, Result, Ok, Err, refl, sym, ap, subst, ◌∙◌, arith}, lemmas.{Bool.{and_parts, eq-eqb, eqb-true}, List.Elements.All-contains}}
 use Rattle.std.{proofs.lemmas.Option.same_Some, specs.{List.list_any, Option.{option_map, option_map_or}}}
 use Rattle.vs_contents.{specs.CallTree.{Done, bind}, proofs.Leads.{AllEnds, end_of}}
-use Rattle.vs_conn.specs.{End.{is_reset, verdict_of}, declared.end.{Owed.Owed, State.State, Verdict.Verdict}}
-use Rattle.vs_flow.{proofs.Entries.found_passes, specs.{CleanPairs.of_host, Flow.{host_asks, is_assigned}, Table.entry_of, declared.flow.Flow.Flow}}
+use Rattle.vs_flow.{proofs.Entries.found_passes, specs.{Flow.{host_asks, is_assigned}, declared.flow.Flow.Flow}}
 use Rattle.vs_limits.specs.declared.TheConstants.{DRIVER_CONNECTIONS, HOST_CID, LAST_PORT, LISTENERS}
-use Rattle.laws_history.specs.declared.packet.Packet.{Packet}
-use Rattle.vs_page.specs.{Log.{Driver, flow_to_guest}, Open.is_dropped}
-use Rattle.vs_replies.specs.Owed.{reply_to}
 use Rattle.laws_tables.proofs.Slots.{found_by}
 use Rattle.vs_ring_port.specs.{Contents.RingContents, EndLog.EndLog}
-use Rattle.vs_wrap.specs.Wrap.{counted}
-use Rattle.vs_driver_parts.specs.Connections.{after_close, after_leaving, after_read, after_recv, after_grow, after_shutdown, all_gone_after_read, connected, entry_closed}
-use Rattle.vs_driver_parts.specs.Connections.{entry_grow_answer, entry_read, flow_of, grown_by, is_full, is_spent, shut_in, state_of, waits_no_more, with_connection, with_request}
-use Rattle.vs_driver_parts.specs.{Connections.without_gone, Conversations.{DriverTree, after_paying, connect_of, connect_with_page, has_page, new_of, no_credit, not_sent, poll_of}}
+use Rattle.vs_driver_parts.specs.Connections.{after_close, after_leaving, after_recv, after_grow, after_shutdown, connected}
+use Rattle.vs_driver_parts.specs.Connections.{flow_of, is_full, is_spent, state_of, waits_no_more}
+use Rattle.vs_driver_parts.specs.{Conversations.{DriverTree, connect_of, connect_with_page, has_page, new_of, no_credit, not_sent, poll_of}}
 use Rattle.vs_driver_parts.specs.{Conversations.{post_packet, reap_all, request_bytes, send_stopped}, Listening.{accept_of, is_answered, listener_on, listening, next_accepted}}
-use Rattle.vs_driver_parts.specs.{Listening.{with_port, with_waiting, without_id}, Playing.{Plays, RingAllows}, Receiving.{after_packet, after_verdict, all_left, ends_connection}}
-use Rattle.vs_driver_parts.specs.{Receiving.{is_request, may_open, on_heard, on_known, on_packet, on_unknown, reset_reply, with_reply}, State.{DriverEntry, DriverState}}
+use Rattle.vs_driver_parts.specs.{Listening.{with_port, with_waiting, without_id}, Playing.{Plays, RingAllows}, Receiving.{after_packet}}
+use Rattle.vs_driver_parts.specs.{State.{DriverEntry, DriverState}}
 use Rattle.vs_driver_parts.specs.{State.{GoneConnection, Listener, entry_known_as, gone_known_as, is_known_as}, declared.answers.{Accepted.Accepted, ConnectError.ConnectError}}
-use Rattle.vs_driver_parts.specs.declared.answers.{Grown.Grown, ListenError.ListenError, Polled.Polled, Sent.Sent}
-use Rattle.laws_tables.specs.Steps.{is_kept}
-use Rattle.vs_driver_parts.specs.Connections.{keeping}
+use Rattle.vs_driver_parts.specs.declared.answers.{ListenError.ListenError, Polled.Polled, Sent.Sent}
 use Rattle.laws_driver.specs.{Honest.{IsFresh, IsHonestWith}, Carried.Calls.{Accept, Close, Connect, Grow, GuestCall, Journal, Listen, LookAt, Made, Recv, ReplyTo, Send, Shutdown}}
 use Rattle.laws_driver.{specs.Carried.Calls.{Unlisten, is_right, names, whole_call}, proofs.{Calls.new_keeps, Carrying.{Carries, Fact}, Keeping.keeps_end, Polling.poll_keeps}}
+use Rattle.laws_driver.proofs.Calling.{close_to, grow_to, recv_to, shutdown_to}
 use Rattle.laws_driver.proofs.Sighting.{Small, poll_sees}
 use Rattle.laws_driver.proofs.{Staging.Rests, Carried.{Growing.honest_stays, Making.{CarriesCall, whole_with}, Righting.told_before, Sending.begins}}
 use Rattle.laws_rest.proofs.Quiet.{ends_any, ends_then}
 use Rattle.vs_apps_parts.specs.{Journals.made_as, Told.{told_of, wait_of}, declared.journal.{Entry.Entry, WaitsFor.WaitsFor}}
 use Rattle.laws_apps.specs.{Given.{AreGiven, AreGivenWith, ConnectTells, TellsGiven, heard_by, is_heard}, Placed.{ArePlaced, ArePlacedWith, IsAsked, IsClients, IsPlaced}}
-use Rattle.laws_apps.{specs.Placed.{IsPlacedEntry, IsPlacedGone, IsTo, accepted_as, asked_as, given_by, waits_at, was_closed, was_given}, proofs.Placed.{one_of, or_first}}
+use Rattle.laws_apps.{specs.Placed.{IsPlacedEntry, IsPlacedGone, IsTo, accepted_as, asked_as, given_by, waits_at, was_closed, was_given}, proofs.Placed.{changed, one_of, or_first, other_listener, own_listener}}
 use Rattle.laws_apps.proofs.{Placed.or_second, Placing.{IsOfApps, NamesAsked, noted}, Tracing.found_gone}
-use Rattle.vs_conn.specs.declared.end.Owed.TheVariants as owed
-use Rattle.vs_conn.specs.declared.end.State.TheVariants as state
 use Rattle.vs_conn.specs.declared.end.Verdict.TheVariants as verdict
 use Rattle.vs_driver_parts.specs.declared.answers.Accepted.TheVariants as accepted
 use Rattle.vs_driver_parts.specs.declared.answers.ConnectError.TheVariants as refused
-use Rattle.vs_driver_parts.specs.declared.answers.Grown.TheVariants as rise
 use Rattle.vs_driver_parts.specs.declared.answers.ListenError.TheVariants as unheard
 use Rattle.vs_driver_parts.specs.declared.answers.Sent.TheVariants as sent
-
--- The listener on a port, where the waiting of one changes.
-abbrev changed : (List ℕ → List ℕ) → Listener → Listener
-changed change l = record l { waiting = change l.waiting }
-
-other_listener : (p q : ℕ) (change : List ℕ → List ℕ) → (p == q) ≡ false → (ls : List Listener) → listener_on p (with_waiting q change ls) ≡ listener_on p ls
-other_listener p q change other [] = refl
-other_listener p q change other (l ∷ ls) = by (other_listener p q change other ls) (l.port == q) refl
-  where
-    own : listener_on p (with_waiting q change ls) ≡ listener_on p ls → (x : Listener) (b : Bool) → (b ≡ true → x ≡ l)
-        → cond b (Some x) (listener_on p (with_waiting q change ls)) ≡ cond b (Some l) (listener_on p ls)
-    own rest x true same = ap (λ (y : Listener). Some y) (same refl)
-    own rest x false same = rest
-
-    differ : (l.port == q) ≡ true → (l.port == p) ≡ true → changed change l ≡ l
-    differ at is =
-        let same : p ≡ q = sym (eqb-true l.port p is) ∙ eqb-true l.port q at in
-        absurd (let no : true ≡ false = sym (eq-eqb p q same) ∙ other in cc)
-
-    by : listener_on p (with_waiting q change ls) ≡ listener_on p ls → (a : Bool) → (l.port == q) ≡ a
-        → listener_on p (cond a (changed change l) l ∷ with_waiting q change ls) ≡ listener_on p (l ∷ ls)
-    by rest true at = own rest (changed change l) (l.port == p) (differ at)
-    by rest false at = own rest l (l.port == p) (λ is. refl)
-
-own_listener : (q : ℕ) (change : List ℕ → List ℕ) (ls : List Listener)
-    → listener_on q (with_waiting q change ls) ≡ option_map (changed change) (listener_on q ls)
-own_listener q change [] = refl
-own_listener q change (l ∷ ls) = by (own_listener q change ls) (l.port == q) refl
-  where
-    by : listener_on q (with_waiting q change ls) ≡ option_map (changed change) (listener_on q ls) → (a : Bool) → (l.port == q) ≡ a
-        → listener_on q (cond a (changed change l) l ∷ with_waiting q change ls) ≡ option_map (changed change) (cond a (Some l) (listener_on q ls))
-    by rest true at = ap (λ (b : Bool). cond b (Some (changed change l)) (listener_on q (with_waiting q change ls))) at
-    by rest false at = ap (λ (b : Bool). cond b (Some l) (listener_on q (with_waiting q change ls))) at ∙ rest
 
 still_heard : (p q : ℕ) (change : List ℕ → List ℕ) (ls : List Listener) → is_some (listener_on p ls) ≡ true → is_some (listener_on p (with_waiting q change ls)) ≡ true
 still_heard p q change ls is = by (p == q) refl
@@ -420,45 +378,6 @@ module _ (journal : Journal) where
       → At journal s → At (noted call reply journal) s
   kept call reply none unheard tells s x = silent journal s.next_id s.listeners x call reply none unheard tells
 
-received_same : (journal : Journal) (n id : ℕ) (s : DriverState) (o : Option DriverEntry) → At journal s
-    → At journal (elim o as (λ _. DriverState) [ Some e ↦ entry_read n e s | None ↦ record s { gone = all_gone_after_read id n s.gone } ])
-received_same journal n id s None x = x
-received_same journal n id s (Some e) x = by (length e.value.unread == 0)
-  where
-    by : (b : Bool) → At journal (cond b s (with_connection e.slot (after_read n e.value) s))
-    by true = x
-    by false = x
-
-shut_same : (journal : Journal) (bits : ℕ) (s : DriverState) (o : Option DriverEntry) → At journal s
-    → At journal (elim o as (λ _. DriverState) [ Some e ↦ shut_in e.value.end.state bits e s | None ↦ s ])
-shut_same journal bits s None x = x
-shut_same journal bits s (Some e) x = by e.value.end.state
-  where
-    by : (st : State) → At journal (shut_in st bits e s)
-    by state.Live = x
-    by st = x
-
-grown_same : (journal : Journal) (alloc : ℕ) (s : DriverState) (o : Option DriverEntry) → At journal s
-    → At journal (elim o as (λ _. DriverState) [ Some e ↦ grown_by (entry_grow_answer alloc e) alloc e s | None ↦ s ])
-grown_same journal alloc s None x = x
-grown_same journal alloc s (Some e) x = by (entry_grow_answer alloc e)
-  where
-    by : (a : Grown) → At journal (grown_by a alloc e s)
-    by rise.Done = x
-    by a = x
-
-closed_less : (journal : Journal) (id : ℕ) (s : DriverState) (o : Option DriverEntry) (q : Option GoneConnection) → At journal s
-    → At journal (elim o as (λ _. DriverState) [
-      | Some e ↦ entry_closed e s
-      | None ↦ elim q as (λ _. DriverState) [
-        | None ↦ s
-        | Some g ↦ record s { gone = without_gone id s.gone; listeners = with_waiting g.flow.guest (without_id id) s.listeners }
-      ]
-    ])
-closed_less journal id s None None x = x
-closed_less journal id s None (Some g) x = waits_less journal s.next_id s.listeners x g.flow.guest id
-closed_less journal id s (Some e) q x = waits_less journal s.next_id s.listeners x e.flow.guest e.value.id
-
 call_gives : (first : ℕ) (journal : Journal) (call : GuestCall) → IsOfApps call → CarriesCall first call (gives journal) (gives_after journal call)
 call_gives first journal (Connect port) apps = record {
   refused = λ why s log x is. refusal journal port why s x is;
@@ -478,13 +397,14 @@ call_gives first journal (Unlisten port) apps = absurd apps
 call_gives first journal (Accept port) apps = λ s log fits m x is.
     accepting journal port s x (is_some (listener_on port s.listeners)) refl (next_accepted port s) refl
 call_gives first journal (Recv id n) apps = λ s log fits m x is.
-    kept journal (Recv id n) _ refl refl tt (after_recv id n s) (received_same journal n id s (entry_known_as id s) x)
+    kept journal (Recv id n) _ refl refl tt (after_recv id n s) (recv_to (At journal) id s x n (λ e known. x) x)
 call_gives first journal (Shutdown id bits) apps = λ s log fits m x is.
-    kept journal (Shutdown id bits) _ refl refl tt (after_shutdown id bits s) (shut_same journal bits s (entry_known_as id s) x)
+    kept journal (Shutdown id bits) _ refl refl tt (after_shutdown id bits s) (shutdown_to (At journal) id s x bits (λ e known. x))
 call_gives first journal (Grow id alloc) apps = λ s log fits m x is.
-    kept journal (Grow id alloc) _ refl refl tt (after_grow id alloc s) (grown_same journal alloc s (entry_known_as id s) x)
+    kept journal (Grow id alloc) _ refl refl tt (after_grow id alloc s) (grow_to (At journal) id s x alloc (λ e known done. x))
 call_gives first journal (Close id) apps = λ s log fits m x is.
-    kept journal (Close id) _ refl refl tt (after_close id s) (closed_less journal id s (entry_known_as id s) (gone_known_as id s) x)
+    kept journal (Close id) _ refl refl tt (after_close id s) (close_to (At journal) id s x
+    (λ e known. waits_less journal s.next_id s.listeners x e.flow.guest e.value.id) (λ g. waits_less journal s.next_id s.listeners x g.flow.guest id))
 call_gives first journal (LookAt id) apps = λ s log fits m x is. kept journal (LookAt id) (state_of id s) refl refl tt s x
 
 -- The connection that an accept gave waited on its port, so it is a client's there.

@@ -1,21 +1,14 @@
 -- What a journal tells of the driver's connections, through each change of them.
-use Rattle.std.proofs.Common.{◌≡◌, ◌≤◌, ◌⊎◌, inl, inr, ℕ, zero, suc, ◌+◌, ◌==◌, ◌&&◌, ◌||◌, Bool, true, false, not, cond, List, [], ◌∷◌, ◌++◌, filter, drop, map, Contains, get_or}
-use Rattle.std.proofs.{Common.{Option, Some, None, refl, sym, ap, ◌∙◌, arith}, lemmas.{Grind.common_steps, List.Elements.{All-contains, All-filter, All-map, All-push}}}
+use Rattle.std.proofs.Common.{◌≡◌, ◌≤◌, ◌⊎◌, inl, inr, ℕ, zero, suc, ◌+◌, ◌==◌, ◌||◌, Bool, true, false, not, cond, List, [], ◌∷◌, ◌++◌, filter, drop, map, Contains, get_or}
+use Rattle.std.proofs.{Common.{Some, refl, sym, ap, ◌∙◌, arith}, lemmas.{Grind.common_steps, List.Elements.{All-contains, All-filter, All-map, All-push}}}
 use Rattle.std.{proofs.lemmas.List.Elements.Contains-get_or, specs.List.All}
-use Rattle.vs_conn.specs.{End.{ConnectionEnd, aborted, end_after, is_reset, owes_of, paid_of, verdict_of, with_payload_forwarded, with_shut}, Shut.shut_of, declared.end.Owed.Owed}
+use Rattle.vs_conn.specs.{End.{ConnectionEnd, aborted, end_after, owes_of, paid_of, verdict_of, with_payload_forwarded, with_shut}, Shut.shut_of, declared.end.Owed.Owed}
 use Rattle.vs_conn.{specs.declared.end.{Verdict.Verdict, State.TheVariants.Ended}, proofs.Frames.{got_over, got_own, paid_over, paid_own, paid_peer}}
-use Rattle.vs_flow.specs.{CleanPairs.of_host, Table.{entry_of, revalued}}
+use Rattle.vs_flow.specs.{Table.{revalued}}
 use Rattle.vs_header.specs.declared.Header.{Header}
 use Rattle.laws_history.specs.declared.packet.Packet.{Packet}
-use Rattle.vs_page.specs.{Log.{Driver, flow_to_guest}, Open.is_dropped}
-use Rattle.vs_replies.specs.Owed.{reply_to}
 use Rattle.vs_driver_parts.specs.{State.{DriverConnection, DriverEntry, DriverState}, Connections.{after_leaving, after_read, after_shut, paid_connection, waits_no_more}}
-use Rattle.vs_driver_parts.specs.{Connections.{with_connection, with_request}, Conversations.after_paying, Receiving.{after_packet, after_verdict, all_left, ends_connection}}
-use Rattle.vs_driver_parts.specs.Receiving.{is_request, may_open, on_heard, on_known, on_packet, on_unknown, reset_reply, with_reply}
-use Rattle.vs_wrap.specs.Wrap.{counted}
-use Rattle.laws_tables.proofs.Slots.{found_by}
-use Rattle.laws_tables.specs.Steps.{is_kept}
-use Rattle.vs_driver_parts.specs.Connections.{keeping}
+use Rattle.vs_driver_parts.specs.{Connections.{with_connection}, Receiving.{after_packet}}
 use Rattle.laws_driver.proofs.Sighting.{Small, poll_sees}
 use Rattle.laws_driver.{proofs.Carrying.{Carries, Fact}, specs.Carried.Calls.{Journal, Made, Connect, Listen, Unlisten, Accept, Send, Recv, Shutdown, Grow, Close, LookAt}}
 use Rattle.vs_apps_parts.specs.Told.{told_of}

@@ -2,7 +2,7 @@
 use Rattle.std.proofs.Common.{◌≡◌, ◌≢◌, ℕ, zero, suc, ◌+◌, ◌<◌, ◌≤◌, ◌==◌, ◌||◌, ◌&&◌, not, Bool, true, false, cond, List, [], ◌∷◌, ◌++◌, length, drop, get_or, Option, Some, None}
 use Rattle.std.proofs.{Common.{is_some, refl, sym, ap, subst, ◌∙◌, arith}, lemmas.{Bool.{Decides.nat_tests, eq-eqb, eqb-true}, Grind.common_steps, List.Elements.All-cons}}
 use Rattle.std.{proofs.lemmas.List.Elements.{All-contains, All-filter, All-head, All-map, All-push, All-tail, filter_passes}, specs.List.{All, filter, list_any}}
-use Rattle.std.specs.Option.{option_map_or}
+use Rattle.std.specs.Option.{option_map, option_map_or}
 use Rattle.vs_conn.specs.{End.{ConnectionEnd, end_after, owes_of, with_payload_forwarded, with_shut}, declared.end.{Owed.Owed, State.{State, TheVariants.{Answering, Asked}}}}
 use Rattle.vs_conn.{specs.declared.{end.State.TheVariants.{Ended, Live}, shut.Shut.Shut}, proofs.Frames.{got_asked, got_answering, got_over, got_own}}
 use Rattle.vs_flow.specs.{Flow.host_asks, Table.{IsTable, Table, next_entry, revalued, with_entry, with_value, without}, declared.flow.Flow.Flow}
@@ -29,6 +29,39 @@ pub one_of : (a b c : Bool) (P : Type 0) → (a || (b || c)) ≡ true → (a ≡
 one_of true b c P is first second third = first refl
 one_of false true c P is first second third = second refl
 one_of false false c P is first second third = third is
+
+-- The listener on a port, where the waiting of one changes.
+abbrev pub changed : (List ℕ → List ℕ) → Listener → Listener
+changed change l = record l { waiting = change l.waiting }
+
+pub other_listener : (p q : ℕ) (change : List ℕ → List ℕ) → (p == q) ≡ false → (ls : List Listener) → listener_on p (with_waiting q change ls) ≡ listener_on p ls
+other_listener p q change other [] = refl
+other_listener p q change other (l ∷ ls) = by (other_listener p q change other ls) (l.port == q) refl
+  where
+    own : listener_on p (with_waiting q change ls) ≡ listener_on p ls → (x : Listener) (b : Bool) → (b ≡ true → x ≡ l)
+        → cond b (Some x) (listener_on p (with_waiting q change ls)) ≡ cond b (Some l) (listener_on p ls)
+    own rest x true same = ap (λ (y : Listener). Some y) (same refl)
+    own rest x false same = rest
+
+    differ : (l.port == q) ≡ true → (l.port == p) ≡ true → changed change l ≡ l
+    differ at is =
+        let same : p ≡ q = sym (eqb-true l.port p is) ∙ eqb-true l.port q at in
+        absurd (let no : true ≡ false = sym (eq-eqb p q same) ∙ other in cc)
+
+    by : listener_on p (with_waiting q change ls) ≡ listener_on p ls → (a : Bool) → (l.port == q) ≡ a
+        → listener_on p (cond a (changed change l) l ∷ with_waiting q change ls) ≡ listener_on p (l ∷ ls)
+    by rest true at = own rest (changed change l) (l.port == p) (differ at)
+    by rest false at = own rest l (l.port == p) (λ is. refl)
+
+pub own_listener : (q : ℕ) (change : List ℕ → List ℕ) (ls : List Listener)
+    → listener_on q (with_waiting q change ls) ≡ option_map (changed change) (listener_on q ls)
+own_listener q change [] = refl
+own_listener q change (l ∷ ls) = by (own_listener q change ls) (l.port == q) refl
+  where
+    by : listener_on q (with_waiting q change ls) ≡ option_map (changed change) (listener_on q ls) → (a : Bool) → (l.port == q) ≡ a
+        → listener_on q (cond a (changed change l) l ∷ with_waiting q change ls) ≡ option_map (changed change) (cond a (Some l) (listener_on q ls))
+    by rest true at = ap (λ (b : Bool). cond b (Some (changed change l)) (listener_on q (with_waiting q change ls))) at
+    by rest false at = ap (λ (b : Bool). cond b (Some l) (listener_on q (with_waiting q change ls))) at ∙ rest
 
 -- Who waits on a port, when the listeners change.
 pub stays_behind : (id x : ℕ) (ws : List ℕ) → list_any (λ w. w == id) ws ≡ true → list_any (λ w. w == id) (ws ++ x ∷ []) ≡ true
@@ -63,20 +96,16 @@ module _ (port id : ℕ) where
   pub waits_kept : (q : ℕ) (change : List ℕ → List ℕ)
       → ((ws : List ℕ) → list_any (λ w. w == id) ws ≡ true → list_any (λ w. w == id) (change ws) ≡ true) → (ls : List Listener)
       → waits_at port id ls ≡ true → waits_at port id (with_waiting q change ls) ≡ true
-  waits_kept q change keeps [] is = absurd cc
-  waits_kept q change keeps (l ∷ ls) is = by (waits_kept q change keeps ls) (l.port == q)
+  waits_kept q change keeps ls is = by (port == q) refl
     where
-      one : (c : Bool) (x : Listener) → in_first (cond c (Some l) (listener_on port ls)) ≡ true
-          → (list_any (λ w. w == id) l.waiting ≡ true → list_any (λ w. w == id) x.waiting ≡ true)
-          → (waits_at port id ls ≡ true → waits_at port id (with_waiting q change ls) ≡ true)
-          → in_first (cond c (Some x) (listener_on port (with_waiting q change ls))) ≡ true
-      one true x there stays rest = stays there
-      one false x there stays rest = rest there
+      mapped : (o : Option Listener) → in_first o ≡ true → in_first (option_map (changed change) o) ≡ true
+      mapped None none = none
+      mapped (Some l) some = keeps l.waiting some
 
-      by : (waits_at port id ls ≡ true → waits_at port id (with_waiting q change ls) ≡ true) → (b : Bool)
-          → in_first (listener_on port (cond b (record l { waiting = change l.waiting }) l ∷ with_waiting q change ls)) ≡ true
-      by rest true = one (l.port == port) (record l { waiting = change l.waiting }) is (keeps l.waiting) rest
-      by rest false = one (l.port == port) l is (λ a. a) rest
+      by : (b : Bool) → (port == q) ≡ b → waits_at port id (with_waiting q change ls) ≡ true
+      by false other = ap in_first (other_listener port q change other ls) ∙ is
+      by true same = subst (λ (n : ℕ). in_first (listener_on n ls) ≡ true → in_first (listener_on n (with_waiting q change ls)) ≡ true)
+          (sym (eqb-true port q same)) (λ some. ap in_first (own_listener q change ls) ∙ mapped (listener_on q ls) some) is
 
   pub waits_snoc : (l : Listener) (ls : List Listener) → waits_at port id ls ≡ true → waits_at port id (ls ++ l ∷ []) ≡ true
   waits_snoc l [] is = absurd cc
@@ -87,23 +116,13 @@ module _ (port id : ℕ) where
       by true there rest = there
       by false there rest = rest there
 
-abbrev FirstHas : ℕ → ℕ → Listener → List Listener → Bool → Type 0
-FirstHas port id l ls b = waits_at port id (cond b (record l { waiting = l.waiting ++ id ∷ [] }) l ∷ with_waiting port (λ ws. ws ++ id ∷ []) ls) ≡ true
-
 pub waits_now : (port id : ℕ) (ls : List Listener) → is_some (listener_on port ls) ≡ true
     → waits_at port id (with_waiting port (λ ws. ws ++ id ∷ []) ls) ≡ true
-waits_now port id [] is = absurd cc
-waits_now port id (l ∷ ls) is = by (l.port == port) refl is (waits_now port id ls)
+waits_now port id ls some = ap (in_first port id) (own_listener port (λ ws. ws ++ id ∷ []) ls) ∙ now (listener_on port ls) some
   where
-    by : (b : Bool) → (l.port == port) ≡ b → is_some (cond b (Some l) (listener_on port ls)) ≡ true
-        → (is_some (listener_on port ls) ≡ true → waits_at port id (with_waiting port (λ ws. ws ++ id ∷ []) ls) ≡ true) → FirstHas port id l ls (l.port == port)
-    by true own some more =
-        subst (λ (b : Bool). FirstHas port id l ls b) (sym own)
-        (ap (λ (b : Bool). in_first port id (cond b (Some (record l { waiting = l.waiting ++ id ∷ [] })) (listener_on port (with_waiting port (λ ws. ws ++ id ∷ []) ls)))) own
-        ∙ comes_last id l.waiting)
-    by false other some more =
-        subst (λ (b : Bool). FirstHas port id l ls b) (sym other)
-        (ap (λ (b : Bool). in_first port id (cond b (Some l) (listener_on port (with_waiting port (λ ws. ws ++ id ∷ []) ls)))) other ∙ more some)
+    now : (o : Option Listener) → is_some o ≡ true → in_first port id (option_map (changed (λ ws. ws ++ id ∷ [])) o) ≡ true
+    now None none = absurd cc
+    now (Some l) there = comes_last id l.waiting
 
 pub ports_kept : (P : ℕ → Type 0) (q : ℕ) (change : List ℕ → List ℕ) (ls : List Listener) → All (λ l. P l.port) ls
     → All (λ l. P l.port) (with_waiting q change ls)

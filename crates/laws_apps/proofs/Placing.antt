@@ -1,34 +1,31 @@
 -- Calls and polls keep what a journal's calls left of the driver's connections.
-use Rattle.std.proofs.Common.{◌≡◌, ◌≢◌, ℕ, ◌+◌, ◌<◌, ◌≤◌, ◌==◌, ◌&&◌, ◌||◌, nat_le, nat_lt, not, Bool, true, false, cond, List, [], ◌∷◌, ◌++◌, length, take, get_or, find, filter}
+use Rattle.std.proofs.Common.{◌≡◌, ◌≢◌, ℕ, ◌+◌, ◌<◌, ◌≤◌, ◌==◌, ◌&&◌, ◌||◌, nat_le, nat_lt, not, Bool, true, false, cond, List, [], ◌∷◌, ◌++◌, length, take, get_or, find}
 use Rattle.std.proofs.{Common.{Contains, Option, Some, None, is_some, Result, Ok, Err, refl, sym, ap, subst, ◌∙◌, arith, slice_get}, lemmas.Bool.{Decides.nat_tests, and_parts}}
 use Rattle.std.proofs.lemmas.{Bool.{eq-eqb, eqb-true}, Grind.common_steps, List.Elements.{All-contains, All-head, All-tail, filter_passes}, Option.get_or_from_slice_get}
 use Rattle.std.{proofs.lemmas.Option.{same_Some, slice_get_within}, specs.List.All}
-use Rattle.vs_conn.specs.End.{ConnectionEnd, answering, asked, grown, is_refused, is_reset, owes_of, paid_of, verdict_of, wanting_credit, with_payload_sent, with_shut}
+use Rattle.vs_conn.specs.End.{ConnectionEnd, answering, asked, grown, owes_of, paid_of, wanting_credit, with_payload_sent, with_shut}
 use Rattle.vs_conn.specs.declared.end.{Owed.Owed, State.State, Verdict.Verdict}
-use Rattle.vs_flow.{specs.{CleanPairs.of_host, Flow.{is_assigned, is_host, same_flow}, Table.{IsRising, IsTable, entry_of}, declared.flow.Flow.Flow}, proofs.{Entries.found_passes, Lookups.find_place}}
+use Rattle.vs_flow.{specs.{Flow.{is_assigned, is_host}, declared.flow.Flow.Flow}, proofs.{Entries.found_passes, Lookups.find_place}}
 use Rattle.vs_header.specs.declared.{Header.Header, Kind.TheVariants.Stream}
 use Rattle.vs_limits.specs.declared.TheConstants.{BUF_ALLOC, HOST_CID, LAST_ID, LAST_PORT, WAITING}
 use Rattle.laws_history.specs.declared.packet.Packet.{Packet}
-use Rattle.vs_page.{specs.{Fair.IsFairLog, Log.{Driver, Log, flow_got}, Open.is_dropped, declared.log.LogEntry.TheVariants.GotPacket}, proofs.Flows.same_is}
-use Rattle.vs_replies.specs.Owed.{reply_to}
-use Rattle.laws_tables.{specs.{Matches.Matches, Steps.HasEnd}, proofs.{Fair.{got_not_refused, heard_all}, Slots.found_by}}
 use Rattle.vs_ring_port.specs.{Contents.RingContents, EndLog.EndLog}
-use Rattle.vs_driver_parts.specs.Connections.{after_closing, after_grow, after_leaving, after_read, after_recv, after_shut, after_shutdown, all_gone_after_read, connected}
-use Rattle.vs_driver_parts.specs.Connections.{entry_closed, entry_grow_answer, entry_read, flow_of, grown_by, is_full, next_flow, paid_connection, shut_in, state_of}
-use Rattle.vs_driver_parts.specs.{Connections.{with_connection, with_end, with_request, without_gone}, Conversations.{after_paying, new_of, new_state, no_credit, not_sent}}
+use Rattle.vs_driver_parts.specs.Connections.{after_closing, after_grow, after_read, after_recv, after_shut, after_shutdown, connected}
+use Rattle.vs_driver_parts.specs.Connections.{entry_closed, flow_of, is_full, next_flow, paid_connection, state_of}
+use Rattle.vs_driver_parts.specs.{Connections.{with_connection, with_end, with_request, without_gone}, Conversations.{new_of, new_state, no_credit, not_sent}}
 use Rattle.vs_driver_parts.specs.{Conversations.{poll_of, send_stopped}, Listening.{has_place, is_answered, listen_of, listener_on, listening, next_accepted, with_waiting}}
-use Rattle.vs_driver_parts.specs.{Listening.without_id, Playing.Plays, Receiving.{after_packet, after_verdict, all_left, is_request, may_open, on_heard, on_known, on_packet}}
-use Rattle.vs_driver_parts.specs.{Receiving.{on_unknown, reset_reply, with_reply}, State.{DriverConnection, DriverEntry, DriverState, GoneConnection, Listener, entry_known_as}}
-use Rattle.vs_driver_parts.specs.{State.{gone_known_as, is_known_as}, declared.answers.{Accepted.Accepted, Grown.Grown, ListenError.ListenError, Polled.Polled, Sent.Sent}}
-use Rattle.vs_driver_parts.proofs.{Ids.{HasId, found_under}, Packets.{first_under, others_left, packet_known, packet_unknown}}
-use Rattle.laws_tables.specs.Steps.{is_kept, port_after}
-use Rattle.vs_driver_parts.specs.Connections.{keeping}
+use Rattle.vs_driver_parts.specs.{Listening.without_id, Playing.Plays, Receiving.{after_packet, may_open}}
+use Rattle.vs_driver_parts.specs.{State.{DriverConnection, DriverEntry, DriverState, GoneConnection, Listener, entry_known_as}}
+use Rattle.vs_driver_parts.specs.{State.{gone_known_as, is_known_as}, declared.answers.{Accepted.Accepted, ListenError.ListenError, Polled.Polled, Sent.Sent}}
+use Rattle.vs_driver_parts.proofs.{Ids.{HasId}}
+use Rattle.laws_tables.specs.Steps.{port_after}
 use Rattle.vs_driver_parts.proofs.Clean.{given_to, may_connect, port_below, port_rises}
-use Rattle.laws_driver.specs.{Honest.{IsFitState, IsFresh, IsHonestWith, ends_of_state}, Carried.Calls.{Accept, Close, Connect, Grow, GuestCall, Journal, Listen, LookAt, Made}}
+use Rattle.laws_driver.specs.{Honest.{IsFitState, IsFresh, IsHonestWith}, Carried.Calls.{Accept, Close, Connect, Grow, GuestCall, Journal, Listen, LookAt, Made}}
 use Rattle.laws_driver.{specs.Carried.Calls.{Recv, ReplyTo, Send, Shutdown, Unlisten, is_right, whole_call}, proofs.{Calls.new_keeps, Carrying.{Carries, Fact}}}
+use Rattle.laws_driver.proofs.Calling.{grow_to, recv_to, shutdown_to}
 use Rattle.laws_driver.proofs.Sighting.{Small, poll_sees}
-use Rattle.laws_driver.proofs.{Changing.stands_known, Keeping.keeps_end, Polling.poll_keeps, Resetting.{first_contained, with_cid}, Staging.Rests, Tabling.{Stands, entry_fits}}
-use Rattle.laws_driver.proofs.{Tabling.{has_end, leaves}, Taking.with_reply_fits, Carried.{Growing.honest_stays, Making.{CarriesCall, whole_with}, Sending.begins}}
+use Rattle.laws_driver.proofs.{Changing.stands_known, Keeping.keeps_end, Polling.poll_keeps, Staging.Rests, Tabling.{Stands}}
+use Rattle.laws_driver.proofs.{Carried.{Growing.honest_stays, Making.{CarriesCall, whole_with}, Sending.begins}}
 use Rattle.laws_driver.proofs.Carried.Righting.{told_before}
 use Rattle.vs_apps_parts.specs.{Journals.made_as, Scripts.with_noted, Told.{told_of, wait_of}, declared.journal.{Entry.Entry, WaitsFor.WaitsFor}}
 use Rattle.laws_apps.specs.Placed.{AreOwned, ArePlaced, ArePlacedWith, HasPlaces, IsAsked, IsPlacedEntry, IsPlacedValue, IsTo, asked_as, closed_by, stands_closed, stands_unanswered}
@@ -40,7 +37,6 @@ use Rattle.vs_conn.specs.declared.end.State.TheVariants as state
 use Rattle.vs_conn.specs.declared.end.Verdict.TheVariants as verdict
 use Rattle.vs_driver_parts.specs.declared.answers.Accepted.TheVariants as accepted
 use Rattle.vs_driver_parts.specs.declared.answers.Closed.TheVariants as closed
-use Rattle.vs_driver_parts.specs.declared.answers.Grown.TheVariants as rise
 use Rattle.vs_driver_parts.specs.declared.answers.Sent.TheVariants as sent
 
 abbrev pub places : Journal → Fact
@@ -241,32 +237,18 @@ module _ (journal : Journal) where
       alters journal s x e (record e.value { end = d; unread = unread }) stands refl
       (value_goes journal e.value (record e.value { end = d; unread = unread }) refl refl refl goes (value_of journal s x e stands))
 
-  receives : (id n : ℕ) (s : DriverState) → IsFitState true s → ArePlaced journal s → (o : Option DriverEntry) → entry_known_as id s ≡ o
-      → ArePlaced journal (elim o as (λ _. DriverState) [ Some e ↦ entry_read n e s | None ↦ record s { gone = all_gone_after_read id n s.gone } ])
-  receives id n s fits x None at = reading journal s x id n
-  receives id n s fits x (Some e) at = by (length e.value.unread == 0)
-    where
-      by : (b : Bool) → ArePlaced journal (cond b s (with_connection e.slot (after_read n e.value) s))
-      by true = x
-      by false = another s x e (after_read n e.value).end (stands_known id s e fits at) (forwarded_stands e.value.end _) (after_read n e.value).unread
+  receives : (id n : ℕ) (s : DriverState) → IsFitState true s → ArePlaced journal s → ArePlaced journal (after_recv id n s)
+  receives id n s fits x = recv_to (ArePlaced journal) id s x n (λ e at.
+      another s x e (after_read n e.value).end (stands_known id s e fits at) (forwarded_stands e.value.end _) (after_read n e.value).unread)
+      (reading journal s x id n)
 
-  shutting : (id bits : ℕ) (s : DriverState) → IsFitState true s → ArePlaced journal s → (o : Option DriverEntry) → entry_known_as id s ≡ o
-      → ArePlaced journal (elim o as (λ _. DriverState) [ Some e ↦ shut_in e.value.end.state bits e s | None ↦ s ])
-  shutting id bits s fits x None at = x
-  shutting id bits s fits x (Some e) at = by e.value.end.state
-    where
-      by : (st : State) → ArePlaced journal (shut_in st bits e s)
-      by state.Live = another s x e (after_shut bits e.value).end (stands_known id s e fits at) (shut_stands e.value.end bits) (after_shut bits e.value).unread
-      by st = x
+  shutting : (id bits : ℕ) (s : DriverState) → IsFitState true s → ArePlaced journal s → ArePlaced journal (after_shutdown id bits s)
+  shutting id bits s fits x = shutdown_to (ArePlaced journal) id s x bits (λ e at.
+      another s x e (after_shut bits e.value).end (stands_known id s e fits at) (shut_stands e.value.end bits) (after_shut bits e.value).unread)
 
-  growing : (id alloc : ℕ) (s : DriverState) → IsFitState true s → ArePlaced journal s → (o : Option DriverEntry) → entry_known_as id s ≡ o
-      → ArePlaced journal (elim o as (λ _. DriverState) [ Some e ↦ grown_by (entry_grow_answer alloc e) alloc e s | None ↦ s ])
-  growing id alloc s fits x None at = x
-  growing id alloc s fits x (Some e) at = by (entry_grow_answer alloc e)
-    where
-      by : (a : Grown) → ArePlaced journal (grown_by a alloc e s)
-      by rise.Done = another s x e (grown e.value.end alloc) (stands_known id s e fits at) (record { closed = λ is. is; unanswered = λ is. is }) e.value.unread
-      by a = x
+  growing : (id alloc : ℕ) (s : DriverState) → IsFitState true s → ArePlaced journal s → ArePlaced journal (after_grow id alloc s)
+  growing id alloc s fits x = grow_to (ArePlaced journal) id s x alloc (λ e at done.
+      another s x e (grown e.value.end alloc) (stands_known id s e fits at) (record { closed = λ is. is; unanswered = λ is. is }) e.value.unread)
 
   call_places : (first : ℕ) (call : GuestCall) → IsOfApps call → CarriesCall first call (places journal) (places_after journal call)
   call_places first (Connect port) apps = record {
@@ -308,11 +290,11 @@ module _ (journal : Journal) where
       none_on port s None none = refl
       none_on port s (Some l) none = absurd cc
   call_places first (Recv id n) apps = λ s log fits m x.
-      (silent (Recv id n) _ (after_recv id n s) refl (receives id n s fits x (entry_known_as id s) refl), tt)
+      (silent (Recv id n) _ (after_recv id n s) refl (receives id n s fits x), tt)
   call_places first (Shutdown id bits) apps = λ s log fits m x.
-      (silent (Shutdown id bits) _ (after_shutdown id bits s) refl (shutting id bits s fits x (entry_known_as id s) refl), tt)
+      (silent (Shutdown id bits) _ (after_shutdown id bits s) refl (shutting id bits s fits x), tt)
   call_places first (Grow id alloc) apps = λ s log fits m x.
-      (silent (Grow id alloc) _ (after_grow id alloc s) refl (growing id alloc s fits x (entry_known_as id s) refl), tt)
+      (silent (Grow id alloc) _ (after_grow id alloc s) refl (growing id alloc s fits x), tt)
   call_places first (Close id) apps = λ s log fits m x. (shuts id s fits x (entry_known_as id s) (gone_known_as id s) refl refl, tt)
   call_places first (LookAt id) apps = λ s log fits m x. (silent (LookAt id) (state_of id s) s refl x, tt)
 

@@ -1,19 +1,15 @@
 -- A step of an app keeps which guest ports connects gave.
-use Rattle.std.proofs.Common.{◌≡◌, ◌⊎◌, ℕ, ◌+◌, ◌<◌, ◌≤◌, ◌==◌, ◌&&◌, nat_le, Bool, true, false, cond, List, [], ◌∷◌, length, min, Option, Some, None}
+use Rattle.std.proofs.Common.{◌≡◌, ◌⊎◌, ℕ, ◌+◌, ◌<◌, ◌≤◌, ◌==◌, nat_le, Bool, true, false, cond, List, [], ◌∷◌, length, min, Option, Some, None}
 use Rattle.std.proofs.{Common.{Result, Ok, Err, refl, sym, ap, subst, ◌∙◌, arith}, lemmas.{Bool.Decides.nat_tests}}
-use Rattle.vs_conn.specs.{End.verdict_of, declared.end.{Owed.Owed, State.State, Verdict.Verdict}, End.is_reset}
-use Rattle.vs_flow.specs.{CleanPairs.of_host, Table.entry_of, declared.flow.Flow.Flow}
+use Rattle.vs_conn.specs.{declared.end.{State.State}}
+use Rattle.vs_flow.specs.{declared.flow.Flow.Flow}
 use Rattle.vs_limits.specs.declared.TheConstants.{HOST_CID, LAST_PORT}
-use Rattle.laws_history.specs.declared.packet.Packet.{Packet}
-use Rattle.vs_page.specs.{Log.{Driver, flow_to_guest}, Open.is_dropped}
-use Rattle.vs_replies.specs.Owed.{reply_to}
 use Rattle.vs_ring_port.specs.{Contents.RingContents}
-use Rattle.vs_wrap.specs.Wrap.{counted}
-use Rattle.laws_tables.specs.Steps.{is_kept, port_after}
+use Rattle.laws_tables.specs.Steps.{port_after}
 use Rattle.vs_driver_parts.specs.Connections.{after_leaving, after_read, all_gone_after_read, connected, entry_closed, entry_grow_answer}
-use Rattle.vs_driver_parts.specs.Connections.{entry_read, flow_of, free_flow, grown_by, keeping, next_flow, shut_in, waits_no_more, with_connection, with_request, without_gone}
-use Rattle.vs_driver_parts.specs.{Conversations.{after_paying, new_of, poll_of}, Listening.{listen_of, listening, next_accepted, with_waiting, without_id}, Playing.Plays}
-use Rattle.vs_driver_parts.specs.{Receiving.{after_packet, after_verdict, all_left, ends_connection, is_request, may_open, on_heard, on_known, on_packet, on_unknown, reset_reply, with_reply}}
+use Rattle.vs_driver_parts.specs.Connections.{entry_read, flow_of, free_flow, grown_by, next_flow, shut_in, waits_no_more, with_connection, without_gone}
+use Rattle.vs_driver_parts.specs.{Conversations.{new_of, poll_of}, Listening.{listen_of, listening, next_accepted, with_waiting, without_id}, Playing.Plays}
+use Rattle.vs_driver_parts.specs.{Receiving.{after_packet}}
 use Rattle.vs_driver_parts.specs.State.{DriverEntry, DriverState, GoneConnection, entry_known_as, gone_known_as}
 use Rattle.vs_driver_parts.specs.declared.answers.{ConnectError.ConnectError, Grown.Grown, ListenError.ListenError, Polled.Polled}
 use Rattle.vs_driver_parts.proofs.Clean.{fresh_is, given_to, given_within, may_connect, port_rises}
@@ -27,7 +23,6 @@ use Rattle.laws_apps.specs.{Placed.{ArePlaced, HasPlaces, was_given}, Ports.{Are
 use Rattle.laws_apps.specs.Runs.{CallsNext, HasFlow, IsKept, IsRunOf, MakesCall, MakesCalls, Moves, NotesCall, PollsTo, Run, Steps, Waits, app_at, journal_of}
 use Rattle.laws_apps.proofs.{Entries.{behind_snoc, ports_snoc, wait_same}, Giving.AreApps, Keeping.{apps_next, call_keeps, of_apps, own_given, polls_keep, still_given}}
 use Rattle.laws_apps.proofs.Placing.{IsOfApps, opened_flow, small_places}
-use Rattle.vs_conn.specs.declared.end.Owed.TheVariants as owed
 use Rattle.vs_conn.specs.declared.end.State.TheVariants as state
 use Rattle.vs_conn.specs.declared.end.Verdict.TheVariants as verdict
 use Rattle.vs_driver_parts.specs.declared.answers.Grown.TheVariants as rise

@@ -9,15 +9,16 @@ use Rattle.vs_credit.specs.Credit.{free_of}
 use Rattle.vs_flow.{specs.Table.{IsTable, entry_under, revalued}, proofs.{Entries.{found_at, found_passes, none_found}, Lookups.find_place}}
 use Rattle.vs_ring_port.specs.{Contents.RingContents, EndLog.EndLog}
 use Rattle.vs_driver_parts.specs.{State.{DriverConnection, DriverEntry, DriverState, GoneConnection, entry_known_as, gone_known_as, is_known_as}, Connections.after_close}
-use Rattle.vs_driver_parts.specs.Connections.{after_closing, after_grow, after_read, after_recv, after_shut, after_shutdown, all_gone_after_read, entry_answer, entry_closed}
-use Rattle.vs_driver_parts.specs.Connections.{entry_grow_answer, entry_read, gone_answer, gone_closed, grown_by, is_at_end, nothing_read, read_of, recv_of, shut_in, close_of}
-use Rattle.vs_driver_parts.specs.{Connections.{grow_of, state_of, unread_of_id, with_connection, with_end, without_gone}, Conversations.{has_page, new_of, no_credit, not_sent}}
+use Rattle.vs_driver_parts.specs.Connections.{after_closing, after_grow, after_read, after_recv, after_shut, after_shutdown, entry_answer, entry_closed}
+use Rattle.vs_driver_parts.specs.Connections.{gone_answer, gone_closed, is_at_end, nothing_read, read_of, recv_of, close_of}
+use Rattle.vs_driver_parts.specs.{Connections.{grow_of, state_of, unread_of_id, with_end, without_gone}, Conversations.{has_page, new_of, no_credit, not_sent}}
 use Rattle.vs_driver_parts.specs.Conversations.{payload_bytes, payload_of, poll_of, post_packet, reap_all, send_of, send_on, send_stopped, send_with_credit, send_with_page}
 use Rattle.vs_driver_parts.specs.{Held.HeldSlots, Listening.{accept_of, after_accept, listen_of, listening, with_waiting, without_id}, Playing.{Plays, RingAllows}}
-use Rattle.vs_driver_parts.specs.{SlotFields.AreNumbered, declared.answers.{Grown.Grown, Polled.Polled, Received.Received, Sent.Sent}}
+use Rattle.vs_driver_parts.specs.{SlotFields.AreNumbered, declared.answers.{Polled.Polled, Received.Received, Sent.Sent}}
 use Rattle.vs_limits.specs.declared.TheConstants.{HOST_CID, LAST_PORT}
 use Rattle.vs_page.specs.declared.page.TheConstants.{PAYLOAD_MAX}
 use Rattle.laws_tables.proofs.Slots.{found_by}
+use Rattle.laws_driver.proofs.Calling.{close_to, grow_to, recv_to, shutdown_to}
 use Rattle.laws_driver.specs.{Honest.{IsFresh, IsHonestWith, slots_of}, Carried.Calls.{GuestCall, Journal, ReplyTo, Connect, Listen, Unlisten, Accept, Send, Recv, Shutdown, Grow}}
 use Rattle.laws_driver.{specs.Carried.{Calls.{Close, LookAt, is_right, whole_call}, Received.bytes_got}, proofs.{Calls.{CarriesConnect, CarriesSend, new_keeps}, Keeping.keeps_end}}
 use Rattle.laws_driver.proofs.{Polling.poll_keeps, Staging.Rests, Carried.{Changing.{accept_slots, listen_slots}, Growing.honest_stays, Making.whole_with, Righting.told_before}}
@@ -28,7 +29,6 @@ use Rattle.laws_apps.specs.{Traces.{AtId, IsClosing, IsDrained, IsStopped, IsTra
 use Rattle.laws_apps.proofs.Lasting.{Comes, IsLater, Traced, abort_later, comes_as, end_later, one_comes, poll_traces, read_later, shut_later, traced_still, value_traced}
 use Rattle.vs_conn.specs.declared.end.State.TheVariants as state
 use Rattle.vs_conn.specs.declared.end.Stop.TheVariants as stop
-use Rattle.vs_driver_parts.specs.declared.answers.Grown.TheVariants as rise
 use Rattle.vs_driver_parts.specs.declared.answers.Received.TheVariants as got
 use Rattle.vs_driver_parts.specs.declared.answers.Sent.TheVariants as sent
 use Rattle.vs_apps_parts.specs.declared.told.Told.TheVariants as says
@@ -220,30 +220,16 @@ module _ (s : DriverState) (by journal : Journal) (x : IsTraced by journal s.nex
   slots_still : (t : DriverState) → slots_of t ≡ slots_of s → Still t
   slots_still t same = subst (λ (h : HeldSlots). IsTraced by journal h.next_id h.table.entries) (sym same) x
 
-  recv_still : (id n : ℕ) → Still (after_recv id n s)
-  recv_still id n = at (entry_known_as id s) refl
-    where
-      read : (e : DriverEntry) → Contains s.table.entries e → (b : Bool) → Still (cond b s (with_connection e.slot (after_read n e.value) s))
-      read e within true = x
-      read e within false = value_traced by journal s e.slot (after_read n e.value)
-          (comes_as by s.table.entries e (after_read n e.value) within refl refl refl (read_later n e.value)) x
+  within : (id : ℕ) (e : DriverEntry) → entry_known_as id s ≡ Some e → Contains s.table.entries e
+  within id e is = (found_by (is_known_as id) s.table.entries e is).0
 
-      at : (o : Option DriverEntry) → entry_known_as id s ≡ o
-          → Still (elim o as (λ _. DriverState) [ Some e ↦ entry_read n e s | None ↦ record s { gone = all_gone_after_read id n s.gone } ])
-      at None is = x
-      at (Some e) is = read e (found_by (is_known_as id) s.table.entries e is).0 (length e.value.unread == 0)
+  recv_still : (id n : ℕ) → Still (after_recv id n s)
+  recv_still id n = recv_to Still id s x n (λ e is. value_traced by journal s e.slot (after_read n e.value)
+      (comes_as by s.table.entries e (after_read n e.value) (within id e is) refl refl refl (read_later n e.value)) x) x
 
   grow_still : (id alloc : ℕ) → Still (after_grow id alloc s)
-  grow_still id alloc = at (entry_known_as id s) refl
-    where
-      grow : (e : DriverEntry) → Contains s.table.entries e → (a : Grown) → Still (grown_by a alloc e s)
-      grow e within rise.Done = value_traced by journal s e.slot (record e.value { end = grown e.value.end alloc })
-          (comes_as by s.table.entries e _ within refl refl refl (end_later e.value (grown e.value.end alloc) (λ is. is) refl refl)) x
-      grow e within _ = x
-
-      at : (o : Option DriverEntry) → entry_known_as id s ≡ o → Still (elim o as (λ _. DriverState) [ Some e ↦ grown_by (entry_grow_answer alloc e) alloc e s | None ↦ s ])
-      at None is = x
-      at (Some e) is = grow e (found_by (is_known_as id) s.table.entries e is).0 (entry_grow_answer alloc e)
+  grow_still id alloc = grow_to Still id s x alloc (λ e is done. value_traced by journal s e.slot (record e.value { end = grown e.value.end alloc })
+      (comes_as by s.table.entries e _ (within id e is) refl refl refl (end_later e.value (grown e.value.end alloc) (λ is. is) refl refl)) x)
 
   -- One that is shut, by its id.
   module _ (id : ℕ) (shut : is_shut id by ≡ true) where
@@ -253,22 +239,14 @@ module _ (s : DriverState) (by journal : Journal) (x : IsTraced by journal s.nex
         (found.0, subst (λ (i : ℕ). is_shut i by ≡ true) (sym (eqb-true e.value.id id (and_parts (e.value.id == id) (not e.value.closed) found.1).0)) shut)
 
     shutdown_still : (bits : ℕ) → Still (after_shutdown id bits s)
-    shutdown_still bits = at (entry_known_as id s) refl
-      where
-        shuts_as : (e : DriverEntry) → Contains s.table.entries e × (is_shut e.value.id by ≡ true) → (st : State) → Still (shut_in st bits e s)
-        shuts_as e found state.Live = value_traced by journal s e.slot (after_shut bits e.value) (record {
-          entry = e;
-          within = found.0;
-          id_is = refl;
-          later = shut_later bits e.value;
-          touched = λ is. inr found.1;
-          closed = λ is. inl is;
-        }) x
-        shuts_as e found st = x
-
-        at : (o : Option DriverEntry) → entry_known_as id s ≡ o → Still (elim o as (λ _. DriverState) [ Some e ↦ shut_in e.value.end.state bits e s | None ↦ s ])
-        at None is = x
-        at (Some e) is = shuts_as e (named e is) e.value.end.state
+    shutdown_still bits = shutdown_to Still id s x bits (λ e is. value_traced by journal s e.slot (after_shut bits e.value) (record {
+      entry = e;
+      within = (named e is).0;
+      id_is = refl;
+      later = shut_later bits e.value;
+      touched = λ on. inr (named e is).1;
+      closed = λ on. inl on;
+    }) x)
 
     close_comes : (e : DriverEntry) → Contains s.table.entries e × (is_shut e.value.id by ≡ true) → (st : State) → Comes by s.table.entries (after_closing st e.value)
     close_comes e found st = record {
@@ -280,19 +258,9 @@ module _ (s : DriverState) (by journal : Journal) (x : IsTraced by journal s.nex
       closed = λ is. inr (closing st e.value).0;
     }
 
-    gone_still : (o : Option GoneConnection) → Still (elim o as (λ _. DriverState) [
-      | None ↦ s
-      | Some g ↦ record s { gone = without_gone id s.gone; listeners = with_waiting g.flow.guest (without_id id) s.listeners }
-    ])
-    gone_still None = x
-    gone_still (Some g) = x
-
     close_still : Still (after_close id s)
-    close_still = at (entry_known_as id s) refl
-      where
-        at : (o : Option DriverEntry) → entry_known_as id s ≡ o → Still (elim o as (λ _. DriverState) [ Some e ↦ entry_closed e s | None ↦ gone_closed id s ])
-        at None is = gone_still (gone_known_as id s)
-        at (Some e) is = value_traced by journal s e.slot (after_closing e.value.end.state e.value) (close_comes e (named e is) e.value.end.state) x
+    close_still = close_to Still id s x
+        (λ e is. value_traced by journal s e.slot (after_closing e.value.end.state e.value) (close_comes e (named e is) e.value.end.state) x) (λ g. x)
 
 -- A closed id: its connection is closing.
 module _ (s : DriverState) (sound : IsTable s.table) (numbers : AreNumbered 1 s.next_port s.next_id s.table s.gone) (journal : Journal)

@@ -1,5 +1,5 @@
 -- Calls that make no use of the ring: the driver still matches its log.
-use Rattle.std.proofs.Common.{◌≡◌, ℕ, ◌≤◌, ◌==◌, Bool, true, false, cond, min, List, [], ◌∷◌, length, Option, Some, None, refl, sym, subst, ◌∙◌, ap, arith}
+use Rattle.std.proofs.Common.{◌≡◌, ℕ, ◌≤◌, Bool, min, List, [], ◌∷◌, length, Option, Some, None, refl, sym, subst, ◌∙◌, ap, arith}
 use Rattle.vs_conn.{proofs.Steps.{abort_follows, ask_follows, forward_follows, grow_follows, shut_follows}, specs.{End.{ConnectionEnd, grown, wanting_credit}, Follows.Follows}}
 use Rattle.vs_conn.specs.declared.end.State.{State}
 use Rattle.vs_credit.specs.Credit.{unread_of}
@@ -7,16 +7,16 @@ use Rattle.laws_history.specs.History.{Side, gots, puts, History}
 use Rattle.vs_page.specs.Log.{Driver, Log, side_of}
 use Rattle.laws_tables.specs.{Both.{Aborts, Decides, Decision, Forwards, Grows, MayDecide, Shuts, WantsCredit, decided}, Ends.Ends, Heard.heard_of, Matches.Matches, Steps.with_end}
 use Rattle.laws_tables.proofs.{Going.{Goes, goes_then, one_step, stays}, Keeps.changes, Slots.found_by, Tables.driver_begun}
-use Rattle.vs_driver_parts.specs.{State.{DriverConnection, DriverEntry, DriverState, GoneConnection, entry_known_as, gone_known_as, is_known_as}, Connections.after_close}
+use Rattle.vs_driver_parts.specs.{State.{DriverConnection, DriverEntry, DriverState, entry_known_as, is_known_as}, Connections.after_close}
 use Rattle.vs_driver_parts.specs.Connections.{after_closing, after_grow, after_read, after_recv, after_shut, after_shutdown, entry_grow_answer, grown_by, after_unlisten}
 use Rattle.vs_driver_parts.specs.Connections.{all_closed, all_gone_after_read, entry_closed, entry_read, gone_closed, shut_in, waiting_on, with_connection, without_gone}
-use Rattle.vs_driver_parts.{specs.{declared.answers.Grown.Grown, Listening.{after_accept, listening, next_accepted, with_waiting, without_id}}, proofs.Growing.{MayGrow, may_grow}}
+use Rattle.vs_driver_parts.{specs.{Listening.{after_accept, listening, next_accepted, with_waiting, without_id}}, proofs.Growing.{MayGrow, may_grow}}
 use Rattle.vs_driver_parts.proofs.Ids.{found_under}
+use Rattle.laws_driver.proofs.Calling.{close_to, grow_to, recv_to, shutdown_to}
 use Rattle.laws_driver.{specs.Honest.{IsFitState, ends_of_state}, proofs.{Going.{at_log, seat}, Tabling.{Stands, connection_ends}}}
 use Rattle.laws_driver.proofs.{Tabling.{connection_fits, entry_fits, has_end}, Fits.{IsHeldBy, closing_fits, grow_fits, holds_same, read_fits, shut_fits}}
 use Rattle.vs_conn.specs.declared.end.State.TheVariants as state
 use Rattle.vs_driver_parts.specs.Connections as connections
-use Rattle.vs_driver_parts.specs.declared.answers.Grown.TheVariants as rise
 
 -- What a step does that puts and gets nothing.
 pub record Changes (hosts : Bool) (s t : DriverState) : Type 0 where
@@ -75,18 +75,9 @@ module _ {hosts : Bool} where
       connection_changes s e (after_read n e.value) (Forwards k) fits stands (read_fits n e.value held) refl
       (λ side h follows. forward_follows _ _ _ e.value.end k follows least) refl least
 
-  entry_read_changes : (n : ℕ) (b : Bool) (s : DriverState) (e : DriverEntry) → IsFitState hosts s → Stands s e
-      → Changes hosts s (cond b s (with_connection e.slot (after_read n e.value) s))
-  entry_read_changes n true s e fits stands = same s fits
-  entry_read_changes n false s e fits stands = read_changes n s e fits stands
-
   pub recv_changes : (id n : ℕ) (s : DriverState) → IsFitState hosts s → Changes hosts s (after_recv id n s)
-  recv_changes id n s fits = by (entry_known_as id s) refl
-    where
-      by : (o : Option DriverEntry) → entry_known_as id s ≡ o
-          → Changes hosts s (elim o [ Some e ↦ entry_read n e s | None ↦ record s { gone = all_gone_after_read id n s.gone } ])
-      by None none = record { matches = λ first log m. m; fits = fits; broken = refl; goes = λ first log m. stays Driver _ _ refl }
-      by (Some e) found = entry_read_changes n (length e.value.unread == 0) s e fits (stands_known id s e fits found)
+  recv_changes id n s fits = recv_to (Changes hosts s) id s (same s fits) n (λ e found. read_changes n s e fits (stands_known id s e fits found))
+      (record { matches = λ first log m. m; fits = fits; broken = refl; goes = λ first log m. stays Driver _ _ refl })
 
   -- shutdown.
   shut_changes : (bits : ℕ) (s : DriverState) (e : DriverEntry) → IsFitState hosts s → Stands s e → Changes hosts s (with_connection e.slot (after_shut bits e.value) s)
@@ -95,16 +86,9 @@ module _ {hosts : Bool} where
       connection_changes s e (after_shut bits e.value) (Shuts bits) fits stands (shut_fits bits e.value held) refl
       (λ side h follows. shut_follows _ _ _ e.value.end bits follows) refl tt
 
-  shut_by : (st : State) (bits : ℕ) (s : DriverState) (e : DriverEntry) → IsFitState hosts s → Stands s e → Changes hosts s (shut_in st bits e s)
-  shut_by state.Live bits s e fits stands = shut_changes bits s e fits stands
-  shut_by _ bits s e fits stands = same s fits
-
   pub shutdown_changes : (id bits : ℕ) (s : DriverState) → IsFitState hosts s → Changes hosts s (after_shutdown id bits s)
-  shutdown_changes id bits s fits = by (entry_known_as id s) refl
-    where
-      by : (o : Option DriverEntry) → entry_known_as id s ≡ o → Changes hosts s (elim o [ Some e ↦ shut_in e.value.end.state bits e s | None ↦ s ])
-      by None none = same s fits
-      by (Some e) found = shut_by e.value.end.state bits s e fits (stands_known id s e fits found)
+  shutdown_changes id bits s fits =
+      shutdown_to (Changes hosts s) id s (same s fits) bits (λ e found. shut_changes bits s e fits (stands_known id s e fits found))
 
   -- grow.
   raise_changes : (alloc : ℕ) (s : DriverState) (e : DriverEntry) → IsFitState hosts s → Stands s e → MayGrow e.value.end alloc
@@ -114,17 +98,9 @@ module _ {hosts : Bool} where
       connection_changes s e (record e.value { end = grown e.value.end alloc }) (Grows alloc) fits stands (grow_fits alloc e.value held may.rises may.most) refl
       (λ side h follows. grow_follows _ _ _ e.value.end alloc follows may.live may.rises may.most) refl (may.live, may.rises, may.most)
 
-  grow_by : (a : Grown) (alloc : ℕ) (s : DriverState) (e : DriverEntry) → entry_grow_answer alloc e ≡ a → IsFitState hosts s → Stands s e
-      → Changes hosts s (grown_by a alloc e s)
-  grow_by rise.Done alloc s e done fits stands = raise_changes alloc s e fits stands (may_grow e.value.end alloc done)
-  grow_by _ alloc s e done fits stands = same s fits
-
   pub grow_changes : (id alloc : ℕ) (s : DriverState) → IsFitState hosts s → Changes hosts s (after_grow id alloc s)
-  grow_changes id alloc s fits = by (entry_known_as id s) refl
-    where
-      by : (o : Option DriverEntry) → entry_known_as id s ≡ o → Changes hosts s (elim o [ Some e ↦ grown_by (entry_grow_answer alloc e) alloc e s | None ↦ s ])
-      by None none = same s fits
-      by (Some e) found = grow_by (entry_grow_answer alloc e) alloc s e refl fits (stands_known id s e fits found)
+  grow_changes id alloc s fits = grow_to (Changes hosts s) id s (same s fits) alloc
+      (λ e found done. raise_changes alloc s e fits (stands_known id s e fits found) (may_grow e.value.end alloc done))
 
 -- close.
 closing_follows : (st : State) (c : DriverConnection) → FollowsAs c.end (after_closing st c).end
@@ -149,19 +125,10 @@ module _ {hosts : Bool} where
       is.2 (closing_follows e.value.end.state e.value) is.0 is.1 in
       record { matches = c.matches; fits = c.fits; broken = c.broken; goes = c.goes }
 
-  gone_closed_by : (o : Option GoneConnection) (id : ℕ) (s : DriverState) → IsFitState hosts s → Changes hosts s (elim o [
-    | None ↦ s
-    | Some g ↦ record s { gone = without_gone id s.gone; listeners = with_waiting g.flow.guest (without_id id) s.listeners }
-  ])
-  gone_closed_by None id s fits = same s fits
-  gone_closed_by (Some g) id s fits = record { matches = λ first log m. m; fits = fits; broken = refl; goes = λ first log m. stays Driver _ _ refl }
-
   pub close_changes : (id : ℕ) (s : DriverState) → IsFitState hosts s → Changes hosts s (after_close id s)
-  close_changes id s fits = by (entry_known_as id s) refl
-    where
-      by : (o : Option DriverEntry) → entry_known_as id s ≡ o → Changes hosts s (elim o [ Some e ↦ entry_closed e s | None ↦ gone_closed id s ])
-      by None none = gone_closed_by (gone_known_as id s) id s fits
-      by (Some e) found = entry_closed_changes s e fits (stands_known id s e fits found)
+  close_changes id s fits =
+      close_to (Changes hosts s) id s (same s fits) (λ e found. entry_closed_changes s e fits (stands_known id s e fits found))
+      (λ g. record { matches = λ first log m. m; fits = fits; broken = refl; goes = λ first log m. stays Driver _ _ refl })
 
   -- unlisten.
   all_closed_changes : (ids : List ℕ) (s : DriverState) → IsFitState hosts s → Changes hosts s (all_closed ids s)

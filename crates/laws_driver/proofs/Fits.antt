@@ -1,11 +1,11 @@
 -- The buffer of a connection holds what its end counts as unread, whatever the end does.
-use Rattle.std.proofs.Common.{◌≡◌, ℕ, ◌+◌, ◌≤◌, ◌^◌, Bool, true, false, cond, min, List, [], ◌++◌, length, drop, refl, subst, arith, length-append, length-drop, eq-eqb}
+use Rattle.std.proofs.Common.{◌≡◌, ℕ, ◌+◌, ◌≤◌, Bool, true, false, cond, min, List, [], ◌++◌, length, drop, refl, subst, arith, length-append, length-drop, eq-eqb}
 use Rattle.vs_credit.specs.{Credit.unread_of, declared.Credit.Credit}
 use Rattle.vs_limits.specs.declared.TheConstants.{BUF_ALLOC_MAX}
 use Rattle.laws_history.specs.declared.packet.Packet.{Packet}
 use Rattle.vs_page.specs.Held.{IsWhole}
 use Rattle.vs_conn.specs.{declared.end.{Owed.Owed, State.State, Verdict.Verdict}, End.{end_after, grown, verdict_of, with_payload_sent, with_shut}}
-use Rattle.laws_tables.{specs.Drains.delivered, proofs.Unread.{Counts, Moves, forwards, hears, pays, shuts, still}}
+use Rattle.laws_tables.{specs.Drains.delivered, proofs.Unread.{Counts, Moves, forwards, hears, shuts, still}}
 use Rattle.vs_driver_parts.specs.{Room.HasRoom, State.DriverConnection, Receiving.after_packet, Connections.{after_read, after_shut, after_closing, paid_connection}}
 use Rattle.vs_driver_parts.proofs.Delivers.{delivers, named_rw}
 use Rattle.vs_conn.specs.declared.end.Owed.TheVariants as owed

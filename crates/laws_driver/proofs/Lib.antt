@@ -10,6 +10,7 @@ pub mod Emptying
 pub mod Carrying
 pub mod Staging
 pub mod Polling
+pub mod Calling
 pub mod Changing
 pub mod Calls
 pub mod Shown

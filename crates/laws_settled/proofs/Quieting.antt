@@ -1,11 +1,12 @@
 -- A turn that put nothing.
 use Rattle.std.proofs.lemmas.Grind.{common_steps}
-use Rattle.std.proofs.Common.{◌≡◌, ◌+◌, ◌-◌, ◌≤◌, ◌&&◌, not, ◌⊎◌, inl, inr, ℕ, Bool, true, false, Option, Some, None, Ok, Err, refl, sym, ap, subst, ◌∙◌, arith}
-use Rattle.std.{specs.Option.ForSome}
+use Rattle.std.proofs.Common.{◌≡◌, ◌+◌, ◌≤◌, ◌⊎◌, inl, inr, ℕ, Bool, true, false, Option, Some, None, Ok, Err, refl, sym, ap, subst, ◌∙◌, arith}
+use Rattle.std.{proofs.lemmas.Option.same_Some, specs.Option.ForSome}
 use Rattle.vs_contents.{specs.{CallTree.Done, Contents.Relates}, proofs.Leads.leads_split}
 use Rattle.vs_flow.specs.Table.{IsTable}
 use Rattle.vs_ring_port.specs.{Known.{Known, StopsAt}, declared.{failure.Failure.Failure, queue.Queue.TheVariants.Rx}}
 use Rattle.vs_device_parts.specs.{Calls.{Allows, Situation}, Playing.Runs, Receiving.{Filling, fill_rx_of, filled_of}, State.DeviceState, Streams.{Writing, pump_of}}
+use Rattle.laws_proxy.proofs.Account.Events.{turn_says}
 use Rattle.laws_device.{specs.{Named.Waiting.filling_of, Honest.ends_of_state}, proofs.Named.Stopping.{is_stage, over_lacks}}
 use Rattle.laws_rest.{specs.Rest.OwesNothing, proofs.Stages.stage_owes_none}
 use Rattle.vs_proxy_parts.specs.{State.{ProxyState, Turning, start}, Turns.{device_after, event_stage, fill_stage, filled, pump_stage, take_stage, tick_stage, turn_of, turned}}
@@ -95,40 +96,8 @@ pumps_by t u c m None is runs none =
       ap (λ (v : Turning). v.wrote) (sym split.rest.0),
     )
 
-says_by : (s : ProxyState) (l : Turning) (t : Turned) (o : Option Failure) → (elim o as (λ _. Turn) [
-  | Some f ↦ turn.Failed f
-  | None ↦ turn.Turned (record {
-    took = l.took;
-    put = l.put;
-    read = l.read;
-    wrote = l.wrote;
-    opened = l.state.device.opened - s.device.opened;
-    closed = l.state.device.closed - s.device.closed;
-    hands = l.hands;
-    event = s.device.event_owed && not l.state.device.event_owed;
-  })
-]) ≡ turn.Turned t → (o ≡ None) × (l.put ≡ t.put) × (l.wrote ≡ t.wrote)
-says_by s l t (Some f) answer = absurd cc
-says_by s l t None answer = (
-  refl,
-  ap (λ (u : Turned). u.put) same,
-  ap (λ (u : Turned). u.wrote) same,
-)
-  where
-    same : (let u : Turned = record {
-      took = l.took;
-      put = l.put;
-      read = l.read;
-      wrote = l.wrote;
-      opened = l.state.device.opened - s.device.opened;
-      closed = l.state.device.closed - s.device.closed;
-      hands = l.hands;
-      event = s.device.event_owed && not l.state.device.event_owed;
-    } in u) ≡ t
-    same = cc
-
 says : (s : ProxyState) (l : Turning) (t : Turned) → turned s l ≡ turn.Turned t → (l.state.device.failed ≡ None) × (l.put ≡ t.put) × (l.wrote ≡ t.wrote)
-says s l t answer = says_by s l t l.state.device.failed answer
+says s l t answer = let is = turn_says s l t answer in (is.0, ap (λ (u : Turned). u.put) is.1, ap (λ (u : Turned). u.wrote) is.1)
 
 told_taken : (o p : Option Known) → Relates o p (StopsAt Rx) → ForSome p (λ k. k.rx.told ≤ k.rx.taken)
 told_taken o p stops = grind (arith, common_steps)

@@ -1,31 +1,24 @@
 -- A fact of the driver's connections and of who waits, through each of the driver's steps and each call of the guest's: it is kept where small
 -- changes keep it.
-use Rattle.std.proofs.lemmas.Grind.{common_steps}
-use Rattle.std.proofs.Common.{◌≡◌, ℕ, ◌==◌, Bool, true, false, not, cond, List, [], ◌∷◌, ◌++◌, length, filter, Option, Some, None, is_some, Result, Ok, Err, refl, ap, subst, arith}
-use Rattle.std.{proofs.Common.◌∙◌, specs.List.slice_get}
-use Rattle.vs_conn.specs.{End.{ConnectionEnd, grown}, declared.end.{Owed.Owed, State.State, Verdict.Verdict}}
-use Rattle.vs_flow.{specs.{CleanPairs.of_host, Table.{IsRising, IsTable, Table, entry_of, entry_under, without}, declared.flow.Flow.Flow}, proofs.Tables.without_sound}
+use Rattle.std.proofs.Common.{◌≡◌, ℕ, Bool, true, false, cond, List, [], ◌∷◌, ◌++◌, Option, Some, None, is_some, Result, Ok, Err, refl}
+use Rattle.vs_conn.specs.{End.{ConnectionEnd, grown}, declared.end.{Owed.Owed, Verdict.Verdict}}
+use Rattle.vs_flow.specs.{Table.{IsTable, Table, entry_under, without}, declared.flow.Flow.Flow}
 use Rattle.vs_limits.specs.declared.TheConstants.{HOST_CID}
 use Rattle.vs_header.specs.declared.Header.{Header}
 use Rattle.laws_history.specs.declared.packet.Packet.{Packet}
-use Rattle.vs_page.specs.{Log.{Driver, flow_to_guest}, Open.is_dropped}
-use Rattle.vs_driver_parts.specs.{State.{DriverConnection, DriverEntry, DriverState, GoneConnection, Listener, entry_known_as, gone_known_as, is_known_as}, Connections.after_close}
-use Rattle.vs_driver_parts.specs.Connections.{after_closing, after_grow, after_leaving, after_read, after_recv, after_shut, after_shutdown, entry_grow_answer, grown_by}
-use Rattle.vs_driver_parts.specs.Connections.{after_unlisten, all_closed, all_gone_after_read, entry_closed, entry_read, gone_as, gone_closed, is_let_go, keeping, next_flow}
-use Rattle.vs_driver_parts.specs.Connections.{paid_connection, shut_in, waiting_on, waits_no_more, with_connection, with_end, with_opened, with_request, without_gone}
-use Rattle.vs_driver_parts.specs.{Connections.without_listener, declared.answers.{Grown.Grown, ListenError.ListenError}, Receiving.{after_packet, after_verdict, all_left}}
-use Rattle.vs_driver_parts.specs.{Receiving.{ends_connection, on_heard, on_known, on_packet, on_unknown, reset_reply, with_reply}, Listening.listen_of}
-use Rattle.vs_driver_parts.{specs.{Listening.{listener_on, listening, next_accepted, with_port, with_waiting, without_id}, Conversations.after_paying}, proofs.Ids.found_under}
-use Rattle.vs_driver_parts.proofs.{Packets.{first_under, others_left}, SameIds.packet_id}
-use Rattle.vs_wrap.specs.Wrap.{counted}
-use Rattle.laws_tables.specs.Steps.{is_kept}
+use Rattle.vs_driver_parts.specs.{State.{DriverConnection, DriverEntry, DriverState, GoneConnection, Listener, entry_known_as, is_known_as}, Connections.after_close}
+use Rattle.vs_driver_parts.specs.Connections.{after_closing, after_grow, after_leaving, after_read, after_recv, after_shut, after_shutdown}
+use Rattle.vs_driver_parts.specs.Connections.{after_unlisten, all_closed, all_gone_after_read, gone_as, is_let_go, next_flow}
+use Rattle.vs_driver_parts.specs.Connections.{paid_connection, waiting_on, waits_no_more, with_connection, with_end, with_opened, with_request, without_gone}
+use Rattle.vs_driver_parts.specs.{Connections.without_listener, declared.answers.ListenError.ListenError, Receiving.after_packet}
+use Rattle.vs_driver_parts.specs.Listening.{listen_of}
+use Rattle.vs_driver_parts.{specs.Listening.{listener_on, listening, next_accepted, with_port, with_waiting, without_id}, proofs.Ids.found_under}
 use Rattle.laws_driver.{specs.{Honest.IsFitState, Carried.Calls.{Accept, Close, Connect, Grow, GuestCall, Listen, LookAt, Recv, Send, Shutdown, Unlisten}}, proofs.Carrying.Carries}
+use Rattle.laws_driver.proofs.Calling.{close_to, grow_to, recv_to, shutdown_to}
 use Rattle.laws_driver.proofs.Sighting.{Small, poll_sees}
 use Rattle.laws_driver.proofs.{Carrying.Fact, Changing.close_changes, Carried.Making.CarriesCall}
 use Rattle.laws_world.proofs.Listeners.{AllIds}
-use Rattle.vs_driver_parts.specs.declared.answers.Grown.TheVariants as rise
 use Rattle.vs_conn.specs.declared.end.Owed.TheVariants as owed
-use Rattle.vs_conn.specs.declared.end.State.TheVariants as state
 use Rattle.vs_conn.specs.declared.end.Verdict.TheVariants as verdict
 
 -- A fact of the next id, of the table, of the connections that are gone and of who waits.
@@ -108,57 +101,22 @@ module _ {May : ℕ → Type 0} (P : Sight) (kept : IsKept May P) where
 
   -- recv, shutdown, grow, close and unlisten.
   recv_kept : (id n : ℕ) (s : DriverState) → IsTable s.table → Sees P s → Sees P (after_recv id n s)
-  recv_kept id n s sound holds = by (entry_known_as id s) refl
-    where
-      read : (b : Bool) (e : DriverEntry) → entry_under s.table e.slot ≡ Some e → Sees P (cond b s (with_connection e.slot (after_read n e.value) s))
-      read true e under = holds
-      read false e under =
-          kept.changes s e (after_read n e.value) under (record { id_is = refl; closed_is = refl; answered = λ is. is }) holds
-
-      by : (o : Option DriverEntry) → entry_known_as id s ≡ o
-          → Sees P (elim o as (λ _. DriverState) [ Some e ↦ entry_read n e s | None ↦ record s { gone = all_gone_after_read id n s.gone } ])
-      by None is = kept.reads id n s holds
-      by (Some e) is = read (length e.value.unread == 0) e (found_under (is_known_as id) s.table e sound is)
+  recv_kept id n s sound holds = recv_to (Sees P) id s holds n (λ e is.
+      kept.changes s e (after_read n e.value) (found_under (is_known_as id) s.table e sound is) (record { id_is = refl; closed_is = refl; answered = λ is. is }) holds)
+      (kept.reads id n s holds)
 
   shutdown_kept : (id bits : ℕ) (s : DriverState) → IsTable s.table → Sees P s → Sees P (after_shutdown id bits s)
-  shutdown_kept id bits s sound holds = by (entry_known_as id s) refl
-    where
-      shut : (st : State) (e : DriverEntry) → entry_under s.table e.slot ≡ Some e → Sees P (shut_in st bits e s)
-      shut state.Live e under =
-          kept.changes s e (after_shut bits e.value) under (record { id_is = refl; closed_is = refl; answered = λ is. is }) holds
-      shut _ e under = holds
-
-      by : (o : Option DriverEntry) → entry_known_as id s ≡ o
-          → Sees P (elim o as (λ _. DriverState) [ Some e ↦ shut_in e.value.end.state bits e s | None ↦ s ])
-      by None is = holds
-      by (Some e) is = shut e.value.end.state e (found_under (is_known_as id) s.table e sound is)
+  shutdown_kept id bits s sound holds = shutdown_to (Sees P) id s holds bits (λ e is.
+      kept.changes s e (after_shut bits e.value) (found_under (is_known_as id) s.table e sound is) (record { id_is = refl; closed_is = refl; answered = λ is. is }) holds)
 
   grow_kept : (id alloc : ℕ) (s : DriverState) → IsTable s.table → Sees P s → Sees P (after_grow id alloc s)
-  grow_kept id alloc s sound holds = by (entry_known_as id s) refl
-    where
-      grow : (a : Grown) (e : DriverEntry) → entry_under s.table e.slot ≡ Some e → Sees P (grown_by a alloc e s)
-      grow rise.Done e under = end_kept (grown e.value.end alloc) e s under holds
-      grow _ e under = holds
-
-      by : (o : Option DriverEntry) → entry_known_as id s ≡ o
-          → Sees P (elim o as (λ _. DriverState) [ Some e ↦ grown_by (entry_grow_answer alloc e) alloc e s | None ↦ s ])
-      by None is = holds
-      by (Some e) is = grow (entry_grow_answer alloc e) e (found_under (is_known_as id) s.table e sound is)
+  grow_kept id alloc s sound holds =
+      grow_to (Sees P) id s holds alloc (λ e is done. end_kept (grown e.value.end alloc) e s (found_under (is_known_as id) s.table e sound is) holds)
 
   close_kept : (id : ℕ) → May id → (s : DriverState) → IsTable s.table → Sees P s → Sees P (after_close id s)
-  close_kept id may s sound holds = by (entry_known_as id s) refl
-    where
-      gone_by : (o : Option GoneConnection) → Sees P (elim o as (λ _. DriverState) [
-        | None ↦ s
-        | Some g ↦ record s { gone = without_gone id s.gone; listeners = with_waiting g.flow.guest (without_id id) s.listeners }
-      ])
-      gone_by None = holds
-      gone_by (Some g) = kept.less g.flow.guest id (record s { gone = without_gone id s.gone }) (kept.forgets id may s holds)
-
-      by : (o : Option DriverEntry) → entry_known_as id s ≡ o → Sees P (elim o as (λ _. DriverState) [ Some e ↦ entry_closed e s | None ↦ gone_closed id s ])
-      by None is = gone_by (gone_known_as id s)
-      by (Some e) is =
-          kept.less e.flow.guest e.value.id (with_connection e.slot (after_closing e.value.end.state e.value) s) (kept.closes id may s e sound is holds)
+  close_kept id may s sound holds = close_to (Sees P) id s holds
+      (λ e is. kept.less e.flow.guest e.value.id (with_connection e.slot (after_closing e.value.end.state e.value) s) (kept.closes id may s e sound is holds))
+      (λ g. kept.less g.flow.guest id (record s { gone = without_gone id s.gone }) (kept.forgets id may s holds))
 
   closes_kept : (ids : List ℕ) → AllIds May ids → (s : DriverState) → IsFitState true s → Sees P s → Sees P (all_closed ids s)
   closes_kept [] may s fits holds = holds

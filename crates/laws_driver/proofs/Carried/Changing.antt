@@ -6,14 +6,14 @@ use Rattle.vs_conn.specs.{End.{grown, is_open, with_payload_sent, with_shut, wan
 use Rattle.vs_flow.specs.Table.{IsTable}
 use Rattle.laws_history.specs.{declared.packet.Packet.Packet, Packets.is_request}
 use Rattle.vs_page.specs.{Fair.payload_got, Log.{Driver, Log}, declared.log.LogEntry.TheVariants.PutPacket}
-use Rattle.vs_driver_parts.specs.{State.{DriverConnection, DriverEntry, DriverState, GoneConnection, entry_known_as, gone_known_as, is_known_as}, Connections.after_close}
-use Rattle.vs_driver_parts.specs.Connections.{after_closing, after_grow, after_shut, after_shutdown, after_unlisten, all_closed, entry_grow_answer, grown_by, entry_closed}
-use Rattle.vs_driver_parts.specs.{Connections.{gone_closed, shut_in, waiting_on, without_gone}, declared.answers.{Grown.Grown, ListenError.ListenError}, Listening.after_accept}
+use Rattle.vs_driver_parts.specs.{State.{DriverConnection, DriverEntry, DriverState, GoneConnection, entry_known_as, is_known_as}, Connections.after_close}
+use Rattle.vs_driver_parts.specs.Connections.{after_closing, after_grow, after_shut, after_shutdown, after_unlisten, all_closed}
+use Rattle.vs_driver_parts.specs.{Connections.{waiting_on}, declared.answers.{ListenError.ListenError}, Listening.after_accept}
 use Rattle.vs_driver_parts.{specs.{Listening.{listening, next_accepted, with_waiting, without_id}, Held.with_connection_in}, proofs.Numbers.numbers_gone_without}
 use Rattle.laws_driver.{specs.{Honest.{IsFitState, slots_of}, Carried.Received.{Account, AreReceived, EndsClean, ReceivedOn, keeps_all}}, proofs.{Calls.CarriesSend, Changing.close_changes}}
+use Rattle.laws_driver.proofs.Calling.{close_to, grow_to, shutdown_to}
 use Rattle.laws_driver.proofs.Carried.{Reading.given_none, Receiving.{changed_received, in_slots}}
 use Rattle.vs_conn.specs.declared.end.State.TheVariants as state
-use Rattle.vs_driver_parts.specs.declared.answers.Grown.TheVariants as rise
 
 -- Directions are shut, by a shutdown or a close.
 shut_goes : (before aborted shut : Bool) (unread : List ℕ) → (not (aborted || shut) ≡ true → before ≡ true)
@@ -48,34 +48,22 @@ module _ (a : Account) (log : Log) (s : DriverState) (x : AreReceived a log (slo
       (λ f. number_put Driver p log f plain) (PutPacket p ∷ [], refl) (slots_of s) x sound there c same goes over
 
   -- shutdown.
-  shut_by : (st : State) (bits : ℕ) (e : DriverEntry) → IsTable s.table → Contains s.table.entries e → AreReceived a log (slots_of (shut_in st bits e s))
-  shut_by state.Live bits e sound there =
-      let k = shut_keeps bits e.value e.value.closed (λ on. on) in alters e (after_shut bits e.value) sound there refl k.0 k.1
-  shut_by _ bits e sound there = x
+  abbrev Keeps : DriverState → Type 0
+  Keeps t = AreReceived a log (slots_of t)
 
-  pub shutdown_received : (id bits : ℕ) → IsTable s.table → AreReceived a log (slots_of (after_shutdown id bits s))
-  shutdown_received id bits sound = by (entry_known_as id s) refl
-    where
-      by : (o : Option DriverEntry) → entry_known_as id s ≡ o
-          → AreReceived a log (slots_of (elim o as (λ _. DriverState) [ Some e ↦ shut_in e.value.end.state bits e s | None ↦ s ]))
-      by None is = x
-      by (Some e) is = shut_by e.value.end.state bits e sound (found_by (is_known_as id) s.table.entries e is).0
+  named : (id : ℕ) (e : DriverEntry) → entry_known_as id s ≡ Some e → Contains s.table.entries e
+  named id e is = (found_by (is_known_as id) s.table.entries e is).0
+
+  pub shutdown_received : (id bits : ℕ) → IsTable s.table → Keeps (after_shutdown id bits s)
+  shutdown_received id bits sound =
+      shutdown_to Keeps id s x bits (λ e is.
+          let k = shut_keeps bits e.value e.value.closed (λ on. on) in alters e (after_shut bits e.value) sound (named id e is) refl k.0 k.1)
 
   -- grow.
-  grow_by : (answer : Grown) (alloc : ℕ) (e : DriverEntry) → IsTable s.table → Contains s.table.entries e
-      → AreReceived a log (slots_of (grown_by answer alloc e s))
-  grow_by rise.Done alloc e sound there =
-      alters e (record e.value { end = grown e.value.end alloc }) sound there refl
-      (stays_still (keeps_all e.value) (keeps_all e.value) e.value.unread [] (λ on. on) (λ on. refl)) (λ over. over)
-  grow_by _ alloc e sound there = x
-
-  pub grow_received : (id alloc : ℕ) → IsTable s.table → AreReceived a log (slots_of (after_grow id alloc s))
-  grow_received id alloc sound = by (entry_known_as id s) refl
-    where
-      by : (o : Option DriverEntry) → entry_known_as id s ≡ o
-          → AreReceived a log (slots_of (elim o as (λ _. DriverState) [ Some e ↦ grown_by (entry_grow_answer alloc e) alloc e s | None ↦ s ]))
-      by None is = x
-      by (Some e) is = grow_by (entry_grow_answer alloc e) alloc e sound (found_by (is_known_as id) s.table.entries e is).0
+  pub grow_received : (id alloc : ℕ) → IsTable s.table → Keeps (after_grow id alloc s)
+  grow_received id alloc sound = grow_to Keeps id s x alloc (λ e is done.
+      alters e (record e.value { end = grown e.value.end alloc }) sound (named id e is) refl
+      (stays_still (keeps_all e.value) (keeps_all e.value) e.value.unread [] (λ on. on) (λ on. refl)) (λ over. over))
 
   -- close.
   closes : (st : State) (e : DriverEntry) → IsTable s.table → Contains s.table.entries e
@@ -85,23 +73,11 @@ module _ (a : Account) (log : Log) (s : DriverState) (x : AreReceived a log (slo
   closes st e sound there =
       alters e (after_closing st e.value) sound there refl (ended_goes (keeps_all e.value) e.value.unread) (λ over on. absurd cc)
 
-  gone_received : (o : Option GoneConnection) (id : ℕ) → AreReceived a log (slots_of (elim o as (λ _. DriverState) [
-    | None ↦ s
-    | Some g ↦ record s { gone = without_gone id s.gone; listeners = with_waiting g.flow.guest (without_id id) s.listeners }
-  ]))
-  gone_received None id = x
-  gone_received (Some g) id =
+  pub close_received : (id : ℕ) → IsTable s.table → Keeps (after_close id s)
+  close_received id sound = close_to Keeps id s x (λ e is. closes e.value.end.state e sound (named id e is)) (λ g.
       let stays : GoneConnection → Bool = λ h. not (h.id == id) in
       in_slots a log (slots_of s) _ x refl (numbers_gone_without a.first_id s.next_port s.next_id s.table s.gone x.numbers stays) x.held
-      (All-filter stays (ReceivedOn a log) s.gone x.left)
-
-  pub close_received : (id : ℕ) → IsTable s.table → AreReceived a log (slots_of (after_close id s))
-  close_received id sound = by (entry_known_as id s) refl
-    where
-      by : (o : Option DriverEntry) → entry_known_as id s ≡ o
-          → AreReceived a log (slots_of (elim o as (λ _. DriverState) [ Some e ↦ entry_closed e s | None ↦ gone_closed id s ]))
-      by None is = gone_received (gone_known_as id s) id
-      by (Some e) is = closes e.value.end.state e sound (found_by (is_known_as id) s.table.entries e is).0
+      (All-filter stays (ReceivedOn a log) s.gone x.left))
 
 -- unlisten.
 all_received : (a : Account) (log : Log) (ids : List ℕ) (s : DriverState) → IsFitState true s → AreReceived a log (slots_of s)

@@ -2,8 +2,8 @@
 use Rattle.std.proofs.{Common.{◌≡◌, ℕ, ◌+◌, ◌-◌, ◌≤◌, ◌&&◌, not, Bool, cond, List, Option, Some, None, refl, sym, ap, subst, arith}, lemmas.Grind.common_steps}
 use Rattle.vs_contents.{specs.CallTree.{Done, Ask, Leads, bind}, proofs.Leads.{AllEnds, end_of, ends_bind}}
 use Rattle.vs_ring_port.specs.declared.{device_ring.{Chain.Chain, Next.Next}, failure.Failure.Failure}
-use Rattle.vs_device_parts.specs.{Calls.{Answer, DeviceTree}}
-use Rattle.vs_proxy_parts.specs.{Turns.{event_stage, fill_stage, pump_stage, take_stage, tick_stage, turn_of, unless_failed}, Handshakes.shake_hands, State.{ProxyState, Turning}}
+use Rattle.vs_device_parts.specs.{Calls.{Answer, DeviceTree}, Receiving.written}
+use Rattle.vs_proxy_parts.specs.{Turns.{event_stage, fill_stage, pump_stage, take_stage, tick_stage, turn_of, turned, unless_failed}, Handshakes.shake_hands, State.{ProxyState, Turning}}
 use Rattle.vs_proxy_parts.specs.{State.start, declared.answers.{Turn.Turn, Turned.Turned}}
 use Rattle.laws_device.proofs.Walk.{Fields.{AfterTx, Calls, Fields, TxCalls, fields, fields_turn}, Keeping.{Asking, Keeps}}
 use Rattle.laws_proxy.specs.Account.{Events.{TellsEvent, event_put, events_put}, Made.{Made, Makes}}
@@ -54,31 +54,28 @@ module _ (from : ℕ) (was : Bool) where
 abbrev IsTold : ProxyState → ProxyState × Turn → Type 0
 IsTold s x = (t : Turned) → x.1 ≡ turn.Turned t → t.event ≡ (s.device.event_owed && not x.0.device.event_owed)
 
-told_by : (s : ProxyState) (l : Turning) (t : Turned) (o : Option Failure) → (elim o as (λ _. Turn) [
-  | Some f ↦ turn.Failed f
-  | None ↦ turn.Turned (record {
-    took = l.took;
-    put = l.put;
-    read = l.read;
-    wrote = l.wrote;
-    opened = l.state.device.opened - s.device.opened;
-    closed = l.state.device.closed - s.device.closed;
-    hands = l.hands;
-    event = s.device.event_owed && not l.state.device.event_owed;
-  })
-]) ≡ turn.Turned t → t.event ≡ (s.device.event_owed && not l.state.device.event_owed)
-told_by s l t (Some f) answer = absurd cc
-told_by s l t None answer =
-    let same : (let u : Turned = record {
-      took = l.took;
-      put = l.put;
-      read = l.read;
-      wrote = l.wrote;
-      opened = l.state.device.opened - s.device.opened;
-      closed = l.state.device.closed - s.device.closed;
-      hands = l.hands;
-      event = s.device.event_owed && not l.state.device.event_owed;
-    } in u) ≡ t = cc in sym (ap (λ (u : Turned). u.event) same)
+abbrev pub the_turn : ProxyState → Turning → Turned
+the_turn s l = record {
+  took = l.took;
+  put = l.put;
+  read = l.read;
+  wrote = l.wrote;
+  opened = l.state.device.opened - s.device.opened;
+  closed = l.state.device.closed - s.device.closed;
+  hands = l.hands;
+  event = s.device.event_owed && not l.state.device.event_owed;
+}
+
+said_by : (s : ProxyState) (l : Turning) (t : Turned) (o : Option Failure)
+    → elim o as (λ _. Turn) [ Some f ↦ turn.Failed f | None ↦ turn.Turned (the_turn s l) ] ≡ turn.Turned t → (o ≡ None) × (the_turn s l ≡ t)
+said_by s l t (Some f) answer = absurd cc
+said_by s l t None answer = (refl, same)
+  where
+    same : the_turn s l ≡ t
+    same = cc
+
+pub turn_says : (s : ProxyState) (l : Turning) (t : Turned) → turned s l ≡ turn.Turned t → (l.state.device.failed ≡ None) × (the_turn s l ≡ t)
+turn_says s l t = said_by s l t l.state.device.failed
 
 at_each : {A : Type 0} (P : A → Type 0) → ((x : A) → P x) → (tree : DeviceTree A) → AllEnds P tree
 at_each P holds (Done x) = holds x
@@ -93,7 +90,8 @@ module _ (size now : ℕ) (s : ProxyState) where
   is_told =
       after (unless_failed (tick_stage now) (start s)) _ (λ a. after (unless_failed event_stage a) _ (λ b.
       after (unless_failed (take_stage size) b) _ (λ c. after (unless_failed shake_hands c) _ (λ d.
-      after (unless_failed pump_stage d) _ (λ e. after (unless_failed fill_stage e) _ (λ f t answer. told_by s f t f.state.device.failed answer))))))
+      after (unless_failed pump_stage d) _ (λ e. after (unless_failed fill_stage e) _ (λ f t answer.
+      ap (λ (u : Turned). u.event) (sym (turn_says s f t answer).1)))))))
 
   by : (from n : ℕ) (was owed event : Bool) → (n + one owed ≡ from + one was) × (from ≤ n) → event ≡ (was && not owed)
       → n ≡ cond event (from + 1) from
