@@ -57,7 +57,7 @@ module _ (a : Account) (log : Log) (s : DriverState) (x : AreReceived a log (slo
   pub shutdown_received : (id bits : ℕ) → IsTable s.table → Keeps (after_shutdown id bits s)
   shutdown_received id bits sound =
       shutdown_to Keeps id s x bits (λ e is.
-          let k = shut_keeps bits e.value e.value.closed (λ on. on) in alters e (after_shut bits e.value) sound (named id e is) refl k.0 k.1)
+      let k = shut_keeps bits e.value e.value.closed (λ on. on) in alters e (after_shut bits e.value) sound (named id e is) refl k.0 k.1)
 
   -- grow.
   pub grow_received : (id alloc : ℕ) → IsTable s.table → Keeps (after_grow id alloc s)
