@@ -10,7 +10,7 @@ use Rattle.laws_history.specs.{Again.{IsFairAll, count}, History.{Answerer, Aske
 use Rattle.vs_outside.specs.{Host.{HostContents, Stream, stream_at}, HostBytes.{connection_at, host_read, host_wrote}}
 use Rattle.vs_page.specs.{Fair.{IsPrefixOf, instance_from, number_of, payload_got, payload_of, payload_put}, Log.{Device, Driver, Log, Role, history_of, side_of, whole_of}}
 use Rattle.laws_tables.{specs.{Both.{Both, at}, Later.IsLater, Drains.Drains, Ends.is_among}, proofs.{Logs.prefix_then, Later.{run_later, stays_shut}, Firsts.none_begun}}
-use Rattle.laws_world.{specs.{Pipes.{IsNumbered, IsRightIn, IsSentIn}, Sides.both_of, World.World}, proofs.Sound.{Goes, IsWell}}
+use Rattle.laws_world.{specs.{Pipes.{IsNumbered, IsRightIn, IsSentIn}, Sides.both_of, World.World}, proofs.Sound.{Goes, IsWell, ports_in}}
 use Rattle.laws_driver.specs.Carried.{Calls.received_by, Senders.sent_to}
 use Rattle.laws_rest.proofs.BothEnds as both
 
@@ -78,10 +78,10 @@ module _ {fresh : Type 0} (w : World) (well : IsWell fresh w) where
   -- The streams of a host that had none at first.
   module _ (new : fresh) where
     pub wrote_is : (c : Connection) → 1 ≤ c.number → payload_put Device c device ≡ host_wrote c w.host
-    wrote_is c some = both.wrote_is (both_of w) ends w.host _ _ _ (well.streams new) c some
+    wrote_is c some = both.wrote_is (both_of w) ends w.host (ports_in w) _ _ (well.streams new) c some
 
     pub given_is : (c : Connection) → 1 ≤ c.number → IsPrefixOf (host_read c w.host) (payload_got Device c device)
-    given_is c some = both.read_is (both_of w) ends w.host _ _ _ (well.streams new) c some
+    given_is c some = both.read_is (both_of w) ends w.host (ports_in w) _ _ (well.streams new) c some
 
     module _ (opened : ℕ → Connection) (right : IsRightIn opened w) where
       pub read_front : (c : Connection) → 1 ≤ c.number → IsPrefixOf (host_read c w.host) (sent_to opened c w.journal)

@@ -8,7 +8,7 @@ use Rattle.vs_flow.specs.Connection.{Connection}
 use Rattle.vs_page.specs.Log.{Log}
 use Rattle.laws_tables.{proofs.{Voices.{AreVoiced, voices_start}, Both.start_sound}, specs.Both.Both}
 use Rattle.laws_world.{specs.{Pipes.IsFresh, Events.{happens, run}, Sides.{both_of, driver_ends, log_with_staged}, World.{Beginning, World, opening, first_cid}}}
-use Rattle.laws_world.proofs.{DriverWalks.{Ties, walk}, Runs.and_then, Sound.{Goes, IsWell, goes_still, happens_goes}, Listeners.{AllWait, IsOfPort}, Names.named_then}
+use Rattle.laws_world.proofs.{DriverWalks.{Ties, walk}, Runs.and_then, Sound.{Goes, IsWell, goes_still, happens_goes, ports_in}, Listeners.{AllWait, IsOfPort}, Names.named_then}
 use Rattle.vs_ring_port.specs.{DriverCalls.{driver_answer, Stage, Publish}, declared.queue.Queue.TheVariants.{Rx, Event}, EndLog.{EndLog, all_put, entries_marked}, Lists.Rings}
 use Rattle.vs_ring_list.specs.Ends.{Ends, empty_ends}
 use Rattle.vs_driver_parts.specs.{Conversations.{DriverTree, load_cid, new_of, new_state, post_events, post_one, posts, publish_of}, State.DriverState}
@@ -159,7 +159,7 @@ module _ (b : Beginning) (host : HostContents) where
     overrun = refl;
     counted = record { cid_is = refl; dropped_is = refl; unfailed = refl };
     cids = subst (AreVoiced first_cid) opening_is (voices_start first_cid b.first ASSIGNED_FIRST);
-    streams = λ fresh. no_streams host (ports_of false ASSIGNED_FIRST (opening b host).proxy.device) (opening b host).proxy.device.table refl (refl, refl) fresh.streams fresh.labelled;
+    streams = λ fresh. no_streams host (ports_in (opening b host)) (opening b host).proxy.device.table refl (refl, refl) fresh.streams fresh.labelled;
     opened = (no_account 1).opened;
     right = subst (λ (log : Log). IsRightJournal 1 (no_account 1).opened [] log (slots_of (opening b host).driver)) (sym log_empty)
         (subst (λ (s : DriverState). IsRightJournal 1 (no_account 1).opened [] [] (slots_of s)) (sym new.state) (none_righted b.pages b.first 1));

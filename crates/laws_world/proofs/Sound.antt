@@ -50,6 +50,10 @@ host_written id bytes written.Ok c log port t hands x = same_host c (with_stream
 host_written id bytes written.Ended c log port t hands x = x
 host_written id bytes written.NoStream c log port t hands x = x
 
+-- What the device has for REQUESTs, while the host's listeners come and go.
+abbrev pub ports_in : World → Ports
+ports_in w = ports_of false w.proxy.next_port w.proxy.device
+
 -- What is true of the device between any two events.
 pub record DeviceHolds (next : ℕ) (s : DeviceState) : Type 0 where
   pub fits : IsFitDevice s
@@ -80,7 +84,7 @@ pub record IsWell (fresh : Type 0) (w : World) : Type 0 where
   pub counted : IsCounted first_cid w.proxy.device.cid w.proxy.device.dropped w.proxy.device.failed w.rings.device.entries
   pub cids : AreVoiced first_cid (both_of w)
   -- Of a host that had no streams at first.
-  pub streams : StreamedIf fresh w.host w.rings.device.entries (ports_of false w.proxy.next_port w.proxy.device) w.proxy.device.table w.proxy.handshakes
+  pub streams : StreamedIf fresh w.host w.rings.device.entries (ports_in w) w.proxy.device.table w.proxy.handshakes
 
 -- From such a world to another: ids keep their connections.
 pub record Goes {fresh : Type 0} {w : World} (was : IsWell fresh w) (v : World) : Type 0 where
@@ -276,7 +280,7 @@ module _ (fresh : Type 0) (w : World) (well : IsWell fresh w) where
                 fair = well.sound.fair Device;
                 seated = (well.device_puts, λ got. stays _ _ refl);
               },
-              λ ok plain h there. subst (λ (c : HostContents). IsStreamed c w.rings.device.entries (ports_of false w.proxy.next_port w.proxy.device)
+              λ ok plain h there. subst (λ (c : HostContents). IsStreamed c w.rings.device.entries (ports_in w)
                   w.proxy.device.table w.proxy.handshakes)
                   (one_told there) (well.streams ok),
             ),
@@ -390,7 +394,7 @@ module _ (fresh : Type 0) (w : World) (well : IsWell fresh w) where
 
   -- The moment and the host change.
   outside_goes : (now : ℕ) (host : HostContents)
-      → StreamedIf fresh host w.rings.device.entries (ports_of false w.proxy.next_port w.proxy.device) w.proxy.device.table w.proxy.handshakes
+      → StreamedIf fresh host w.rings.device.entries (ports_in w) w.proxy.device.table w.proxy.handshakes
       → Goes well (at_moment now (record w { host = host }))
   outside_goes now host streams = record {
     well = record {
@@ -420,7 +424,7 @@ module _ (fresh : Type 0) (w : World) (well : IsWell fresh w) where
   }
 
   host_goes : (host : HostContents)
-      → StreamedIf fresh host w.rings.device.entries (ports_of false w.proxy.next_port w.proxy.device) w.proxy.device.table w.proxy.handshakes → Goes well (record w { host = host })
+      → StreamedIf fresh host w.rings.device.entries (ports_in w) w.proxy.device.table w.proxy.handshakes → Goes well (record w { host = host })
   host_goes host streams = outside_goes w.proxy.device.now host streams
 
   guest_cid_fits : (cid : ℕ) → is_guest_cid cid ≡ true → cid < 2 ^ 64
@@ -486,15 +490,15 @@ module _ (fresh : Type 0) (w : World) (well : IsWell fresh w) where
   happens_goes (Reset cid) = possible fresh (is_guest_cid cid) (reset_made cid) w well (λ may.
       device_goes fresh w well (proxy_reset_of cid w.proxy) (λ r. r.0) (proxy_reset_keeps kept first_cid cid w.proxy here (guest_cid_fits cid may) (proxied fresh w well 0))
       (one.reset_keeps moving (P first_cid) (calls first_cid) cid (publishes first_cid cid) w.proxy here (counted_now fresh w well 0)))
-  happens_goes (HostListens port) = host_goes _ (λ ok. listened_host w.host (after_listen port kind.Stream w.host).listening _ _ _ _ refl (well.streams ok))
-  happens_goes (HostUnlistens port) = host_goes _ (λ ok. listened_host w.host (after_unlisten port kind.Stream w.host).listening _ _ _ _ refl (well.streams ok))
-  happens_goes ClientConnects = host_goes _ (λ ok. client_host w.host _ _ _ _ (well.streams ok))
-  happens_goes (HostWrites stream bytes) = host_goes _ (λ ok. host_written stream bytes (host_write_answer stream w.host) w.host _ _ _ _ (well.streams ok))
-  happens_goes (HostTakes stream n) = host_goes _ (λ ok. same_host w.host (with_stream stream (allowed 18446744073709551615 n) w.host) _ _ _ _
+  happens_goes (HostListens port) = host_goes _ (λ ok. listened_host w.host (after_listen port kind.Stream w.host).listening _ (ports_in w) _ _ refl (well.streams ok))
+  happens_goes (HostUnlistens port) = host_goes _ (λ ok. listened_host w.host (after_unlisten port kind.Stream w.host).listening _ (ports_in w) _ _ refl (well.streams ok))
+  happens_goes ClientConnects = host_goes _ (λ ok. client_host w.host _ (ports_in w) _ _ (well.streams ok))
+  happens_goes (HostWrites stream bytes) = host_goes _ (λ ok. host_written stream bytes (host_write_answer stream w.host) w.host _ (ports_in w) _ _ (well.streams ok))
+  happens_goes (HostTakes stream n) = host_goes _ (λ ok. same_host w.host (with_stream stream (allowed 18446744073709551615 n) w.host) _ (ports_in w) _ _
       (unseen stream (allowed 18446744073709551615 n) w.host (λ st. refl) (λ o st. refl)) refl refl
       (counts_still stream (allowed 18446744073709551615 n) w.host (λ st. refl)) (well.streams ok))
-  happens_goes (HostEnds stream) = host_goes _ (λ ok. same_host w.host (with_stream stream ended w.host) _ _ _ _ (unseen stream ended w.host (λ st. refl) (λ o st. refl)) refl refl
+  happens_goes (HostEnds stream) = host_goes _ (λ ok. same_host w.host (with_stream stream ended w.host) _ (ports_in w) _ _ (unseen stream ended w.host (λ st. refl) (λ o st. refl)) refl refl
       (counts_still stream ended w.host (λ st. refl)) (well.streams ok))
-  happens_goes (HostCloses stream) = host_goes _ (λ ok. same_host w.host (with_stream stream closed w.host) _ _ _ _ (unseen stream closed w.host (λ st. refl) (λ o st. refl)) refl refl
+  happens_goes (HostCloses stream) = host_goes _ (λ ok. same_host w.host (with_stream stream closed w.host) _ (ports_in w) _ _ (unseen stream closed w.host (λ st. refl) (λ o st. refl)) refl refl
       (counts_still stream closed w.host (λ st. refl)) (well.streams ok))
-  happens_goes (HostFails n) = host_goes _ (λ ok. same_host w.host (after_fail n w.host) _ _ _ _ (λ j. refl) refl refl (λ f. refl) (well.streams ok))
+  happens_goes (HostFails n) = host_goes _ (λ ok. same_host w.host (after_fail n w.host) _ (ports_in w) _ _ (λ j. refl) refl refl (λ f. refl) (well.streams ok))
