@@ -1,5 +1,5 @@
 -- What a conversation keeps of its ring: what holds at each of its ends, where each of its calls on the ring may be made.
-use Rattle.std.{proofs.Common.{◌≡◌, ℕ, zero, suc, ◌<◌, ◌^◌, Bool, true, false, List, Contains, subst}, specs.Option.ForSome}
+use Rattle.std.{proofs.Common.{◌≡◌, ℕ, ◌<◌, ◌^◌, Bool, true, List, Contains, subst}, specs.Option.ForSome}
 use Rattle.vs_contents.specs.CallTree.{Done, Ask, bind, for_each, while_up_to}
 use Rattle.vs_ring_port.specs.{Contents.{RingContents, DeviceCall, Read, Write, Return, PublishCid, DeviceAnswer}, DeviceCalls.{CanReturn, LeavesNoGap, DeviceAllows}}
 use Rattle.vs_ring_port.specs.{Chains.chains_of, declared.{device_ring.Chain.Chain, queue.Queue.TheVariants.Tx}}
@@ -68,8 +68,7 @@ module _ {A : Type 0} (Q : A → Situation → Type 0) where
 
   pub keeps_weaker : (R : A → Situation → Type 0) → ((x : A) (d : Situation) → Q x d → R x d) → (t : DeviceTree A) (c : Situation)
       → Keeps Q t c → Keeps R t c
-  keeps_weaker R then (Done x) c keeps = then x c keeps
-  keeps_weaker R then (Ask call next) c keeps = (keeps.0, λ a d allowed. keeps_weaker R then (next a) d (keeps.1 a d allowed))
+  keeps_weaker = walked.keeps_weaker asking Q
 
   pub keeps_bind : {B : Type 0} (t : DeviceTree B) (f : B → DeviceTree A) (c : Situation) → Keeps (λ x d. Keeps Q (f x) d) t c
       → Keeps Q (bind t f) c
@@ -83,22 +82,11 @@ keeps_then P Q = walked.keeps_then asking Q P
 
 -- A step that says whether it goes on: where it does P holds, else E.
 abbrev pub Goes : {A : Type 0} → (A → Situation → Type 0) → (A → Situation → Type 0) → A × Bool → Situation → Type 0
-Goes P E (x, true) c = P x c
-Goes P E (x, false) c = E x c
+Goes P E r c = walked.Goes asking P E r c
 
-module _ {A : Type 0} (P E : A → Situation → Type 0) (ends : (x : A) (c : Situation) → P x c → E x c) where
-  by_last : (n : ℕ) (step : A → DeviceTree (A × Bool)) → ((x : A) (c : Situation) → P x c → Keeps E (while_up_to n step x) c)
-      → (r : A × Bool) (d : Situation) → Goes P E r d → Keeps E (elim r.1 [ true ↦ while_up_to n step r.0 | false ↦ Done r.0 ]) d
-  by_last n step rest (y, true) d kept = rest y d kept
-  by_last n step rest (y, false) d kept = kept
-
-  pub keeps_while : (step : A → DeviceTree (A × Bool)) → ((x : A) (c : Situation) → P x c → Keeps (Goes P E) (step x) c)
-      → (n : ℕ) (x : A) (c : Situation) → P x c → Keeps E (while_up_to n step x) c
-  keeps_while step each zero x c holds = ends x c holds
-  keeps_while step each (suc n) x c holds =
-      let go : A × Bool → DeviceTree A = λ r. elim r.1 [ true ↦ while_up_to n step r.0 | false ↦ Done r.0 ] in
-      let rest : (y : A) (d : Situation) → P y d → Keeps E (while_up_to n step y) d = λ y d kept. keeps_while step each n y d kept in
-      keeps_then (Goes P E) E (step x) go c (each x c holds) (by_last n step rest)
+pub keeps_while : {A : Type 0} (P E : A → Situation → Type 0) → ((x : A) (c : Situation) → P x c → E x c) → (step : A → DeviceTree (A × Bool))
+    → ((x : A) (c : Situation) → P x c → Keeps (Goes P E) (step x) c) → (n : ℕ) (x : A) (c : Situation) → P x c → Keeps E (while_up_to n step x) c
+keeps_while P E = walked.goes_while asking P E
 
 pub keeps_each : {A X : Type 0} (P : A → Situation → Type 0) (step : X → A → DeviceTree A)
     → ((i : X) (x : A) (c : Situation) → P x c → Keeps P (step i x) c)

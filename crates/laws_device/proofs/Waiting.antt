@@ -3,7 +3,8 @@ use Rattle.laws_device.specs.Carried.Streamed.{Ports, ports_of, IsJoined, IsStre
 use Rattle.laws_device.{specs.{Streams.{AreStreamedWith, IsTabledWith, has_open_stream, is_open_in, is_open_on}, Honest.IsWith}, proofs.Carried.Closing.{is_under, named}}
 use Rattle.laws_device.proofs.{Carried.{HostCalls.some_seen, Hosts.{label_here, label_there, there}}, Shown.{left_open, same_flows}}
 use Rattle.std.proofs.Common.{◌≡◌, ℕ, zero, suc, ◌+◌, ◌-◌, ◌<◌, ◌==◌, ◌&&◌, ◌||◌, Bool, true, false, cond, List, [], ◌∷◌, length, map, Contains, slice_get, slice_index_or, Option}
-use Rattle.std.{proofs.{Common.{Some, None, refl, sym, ap, subst, ◌∙◌, arith}, lemmas.{Bool.{Decides.nat_tests, and_parts}, List.Elements.All-contains}}, specs.List.list_any}
+use Rattle.std.{proofs.{Common.{Some, None, refl, sym, ap, subst, ◌∙◌, arith}, lemmas.{Bool.{Decides.nat_tests, and_parts}, List.Elements.All-contains}}}
+use Rattle.std.proofs.lemmas.{List.Folds.{Any-from_list_any, list_any_at}, Option.{get_or_from_slice_get, slice_get-get_or, slice_get_within}}
 use Rattle.std.specs.Option.{option_map, option_map_or}
 use Rattle.vs_conn.specs.{End.ConnectionEnd, declared.end.State.{State, TheVariants.Asked}}
 use Rattle.vs_device_parts.specs.{Calls.Situation, State.{DeviceConnection, DeviceEntry, DeviceState}}
@@ -13,32 +14,6 @@ use Rattle.vs_page.{specs.Log.Log, proofs.Flows.same_self}
 use Rattle.vs_proxy_parts.specs.State.{Handshake}
 use Rattle.laws_tables.{specs.Ends.{FlowEnd, flows_of, is_among, is_new, is_new_in, new_flows}, proofs.Slots.found_by}
 use Rattle.vs_outside.specs.declared.host_net.StreamState.TheVariants as state
-
--- A test that an element passes, and one that passes.
-module _ {X : Type 0} (test : X → Bool) where
-  any_has : (xs : List X) (k : ℕ) (x : X) → slice_get xs k ≡ Some x → test x ≡ true → list_any test xs ≡ true
-  any_has [] k x at is = absurd cc
-  any_has (y ∷ ys) zero x at is =
-      let same : y ≡ x = cc in ap (λ (b : Bool). b || list_any test ys) (ap test same ∙ is)
-  any_has (y ∷ ys) (suc k) x at is = by (test y) (any_has ys k x at is)
-    where
-      by : (b : Bool) → list_any test ys ≡ true → (b || list_any test ys) ≡ true
-      by true rest = refl
-      by false rest = rest
-
-  record IsOne (xs : List X) : Type 0 where
-    pub place : ℕ
-    pub element : X
-    pub at : slice_get xs place ≡ Some element
-    pub passes : test element ≡ true
-
-  one_of : (xs : List X) → list_any test xs ≡ true → IsOne xs
-  one_of [] is = absurd cc
-  one_of (x ∷ xs) is = by (test x) refl is (one_of xs)
-    where
-      by : (b : Bool) → test x ≡ b → (b || list_any test xs) ≡ true → (list_any test xs ≡ true → IsOne xs) → IsOne (x ∷ xs)
-      by true passes is rest = record { place = 0; element = x; at = refl; passes = passes }
-      by false fails is rest = let r = rest is in record { place = suc r.place; element = r.element; at = r.at; passes = r.passes }
 
 -- The flows of a table, and of the connections whose REQUEST isn't put.
 abbrev out : DeviceEntry → FlowEnd
@@ -111,21 +86,28 @@ tied_by among false false false is up down = is
 
 module _ (c : HostContents) (log : Log) (port : Ports) (t : Table DeviceConnection) (hands : List Handshake)
     (x : IsStreamed c log port t hands) where
-  -- The stream of a connection whose REQUEST isn't put is open.
-  pub new_open : (e : DeviceEntry) → Contains t.entries e → is_new e.value.end ≡ true → has_open_stream e.flow c ≡ true
-  new_open e is new =
+  -- The stream of a connection that isn't closed is open.
+  pub record IsOpenOf (e : DeviceEntry) : Type 0 where
+    pub stream : Stream
+    pub at : stream_at e.value.stream c ≡ Some stream
+    pub joined : (seen c e.value.stream stream).label ≡ Some (connection_of e log)
+    pub label : stream.label ≡ Some e.flow
+    pub opened : is_open_in stream.state ≡ true
+
+  pub open_of : (e : DeviceEntry) → Contains t.entries e → e.value.closed ≡ false → IsOpenOf e
+  open_of e is on =
       let j = All-contains (IsJoined (look c) (count_in c) log) t.entries e x.joined is in
       let st = there e.value.stream c j.stream j.there in
       let its = ap (λ (s : Seen). s.label) st.is ∙ j.label in
-      let still : closes st.stream.state ≡ false = ap (λ (s : Seen). s.closed) st.is ∙ j.closed
-      ∙ (j.asked (new_asks e.value.end new)).3 in
       let label : st.stream.label ≡ Some e.flow = (label_there c e.value.stream st.stream.label (connection_of e log) its).0 in
-      let busy = waits_not e.value.stream st.stream st.at e.flow label (waits st.stream.state) refl in
-      let passes : is_open_on e.flow st.stream ≡ true =
-      ap (λ (b : Bool). b && option_map_or (same_flow e.flow) st.stream.label false) (opens_by st.stream.state busy still)
-      ∙ ap (λ (o : Option Flow). option_map_or (same_flow e.flow) o false) label ∙ same_self e.flow in
-      any_has (is_open_on e.flow) c.streams (e.value.stream - 1) st.stream (placed (e.value.stream == 0) e.value.stream st.stream st.at)
-      passes
+      record {
+        stream = st.stream;
+        at = st.at;
+        joined = its;
+        label = label;
+        opened = opens_by st.stream.state (waits_not e.value.stream st.stream st.at e.flow label (waits st.stream.state) refl)
+            (ap (λ (s : Seen). s.closed) st.is ∙ j.closed ∙ on);
+      }
     where
       waits_not : (id : ℕ) (st : Stream) → stream_at id c ≡ Some st → (f : Flow) → st.label ≡ Some f → (b : Bool) → waits st.state ≡ b
           → waits st.state ≡ false
@@ -135,6 +117,18 @@ module _ (c : HostContents) (log : Log) (port : Ports) (t : Table DeviceConnecti
           let both : None ≡ Some (connection_in c id f) = sym (ap (λ (s : Seen). s.label) client) ∙ label_here c id st f label in
           absurd cc
 
+  -- So is that of one whose REQUEST isn't put.
+  pub new_open : (e : DeviceEntry) → Contains t.entries e → is_new e.value.end ≡ true → has_open_stream e.flow c ≡ true
+  new_open e is new =
+      let j = All-contains (IsJoined (look c) (count_in c) log) t.entries e x.joined is in
+      let o = open_of e is (j.asked (new_asks e.value.end new)).3 in
+      let passes : is_open_on e.flow o.stream ≡ true =
+      ap (λ (b : Bool). b && option_map_or (same_flow e.flow) o.stream.label false) o.opened
+      ∙ ap (λ (l : Option Flow). option_map_or (same_flow e.flow) l false) o.label ∙ same_self e.flow in
+      let place = placed (e.value.stream == 0) e.value.stream o.stream o.at in
+      list_any_at (is_open_on e.flow) c.streams (e.value.stream - 1) o.stream (slice_get_within c.streams (e.value.stream - 1) o.stream place)
+      (ap (is_open_on e.flow) (get_or_from_slice_get c.streams (e.value.stream - 1) o.stream o.stream place) ∙ passes)
+    where
       placed : (b : Bool) (id : ℕ) (st : Stream) → cond b None (slice_get c.streams (id - 1)) ≡ Some st
           → slice_get c.streams (id - 1) ≡ Some st
       placed true id st at = absurd cc
@@ -143,18 +137,20 @@ module _ (c : HostContents) (log : Log) (port : Ports) (t : Table DeviceConnecti
   -- An open stream with a label is that of a connection.
   pub open_among : (f : Flow) → has_open_stream f c ≡ true → is_among f (flows_of (map out t.entries)) ≡ true
   open_among f is =
-      let one = one_of (is_open_on f) c.streams is in
-      let parts = and_parts (is_open_in one.element.state) (option_map_or (same_flow f) one.element.label false) one.passes in
-      let label = labelled one.element.label parts.1 in
-      let id : ℕ = one.place + 1 in
-      let at : look c id ≡ Some (seen c id one.element) = placed one.place one.element one.at in
-      let its = label_here c id one.element f label in
-      let slot = x.tabled id (seen c id one.element) (connection_in c id f) at its (still_by one.element.state parts.0) in
+      let one = Any-from_list_any (is_open_on f) c.streams is in
+      let element : Stream = one.1 in
+      let parts = and_parts (is_open_in element.state) (option_map_or (same_flow f) element.label false) one.4 in
+      let label = labelled element.label parts.1 in
+      let id : ℕ = one.0 + 1 in
+      let at : look c id ≡ Some (seen c id element) =
+      placed one.0 element (slice_get-get_or c.streams one.0 element one.2 ∙ ap (λ (s : Stream). Some s) one.3) in
+      let its = label_here c id element f label in
+      let slot = x.tabled id (seen c id element) (connection_in c id f) at its (still_by element.state parts.0) in
       let u = is_under t slot.0 id slot.1 in
       let e = u.entry in
       let within = (found_by (λ (y : DeviceEntry). y.slot == slot.0) t.entries e u.under).0 in
       let j = All-contains (IsJoined (look c) (count_in c) log) t.entries e x.joined within in
-      let same : seen c id one.element ≡ j.stream = some_seen (seen c id one.element) j.stream
+      let same : seen c id element ≡ j.stream = some_seen (seen c id element) j.stream
       (sym at ∙ ap (look c) (sym (named e id u.stream).1) ∙ j.there) in
       let own : e.flow ≡ f = flow_of (connection_of e log) (connection_in c id f) (sym j.label ∙ ap (λ (s : Seen). s.label) (sym same) ∙ its) in
       subst (λ (g : Flow). is_among g (flows_of (map out t.entries)) ≡ true) own (among_entry t.entries e within.0 within.1 within.2)

@@ -16,7 +16,7 @@ use Rattle.vs_device_parts.specs.{Calls.{Allows, Answer, CloseStream, DeviceTree
 use Rattle.vs_device_parts.specs.{Connections.{route_to_guest, with_connection, with_fault}, Playing.Runs, Receiving.{Filling, after_paying, hold, holding, may_read, put_on}}
 use Rattle.vs_device_parts.specs.Receiving.{put_owed, put_packet, put_reply, put_reply_of, read_answered, read_room, read_stream, read_with_chain, reply_header, round_from}
 use Rattle.vs_device_parts.{specs.{Receiving.{serve_slot, written}, State.{DeviceConnection, DeviceEntry, DeviceState}, Steps.filling, Streams.closing}, proofs.Under.has_slot}
-use Rattle.laws_device.{specs.{Named.Waiting.filling_of, Honest.end_in}, proofs.Walk.Keeping.{Asking, Keeps, keeps_then}}
+use Rattle.laws_device.{specs.{Named.Waiting.filling_of, Honest.end_in}, proofs.Walk.Keeping.{Asking, Keeps, keeps_then, keeps_weaker}}
 use Rattle.laws_rest.proofs.{Owing.{listed, same_slots}, Quiet.in_list, Stages.in_round}
 use Rattle.laws_run.specs.Dry.{IsDry, IsDryAt, IsFull, IsFullAt, IsToldDry, IsToldFull, reads_of, reads_under, writes_of, writes_under}
 use Rattle.vs_limits.specs.declared.TheConstants.{OWED_MAX}
@@ -34,11 +34,6 @@ allowed = record {
 pub keeps_run : {A : Type 0} (Q : A → Situation → Type 0) (tree : DeviceTree A) (c d : Situation) (x : A) → Keeps allowed Q tree c → Runs tree c x d → Q x d
 keeps_run Q (Done y) c d x keeps runs = subst (λ z. Q z d) runs.0 (subst (λ (e : Situation). Q y e) runs.1 keeps)
 keeps_run Q (Ask call k) c d x keeps runs = keeps_run Q (k runs.0) runs.1 d x (keeps runs.0 runs.1 runs.2) runs.3
-
-pub keeps_weaker : {A : Type 0} (Q R : A → Situation → Type 0) → ((x : A) (d : Situation) → Q x d → R x d) → (tree : DeviceTree A) (c : Situation)
-    → Keeps allowed Q tree c → Keeps allowed R tree c
-keeps_weaker Q R weaker (Done x) c keeps = weaker x c keeps
-keeps_weaker Q R weaker (Ask call k) c keeps = λ a d made. keeps_weaker Q R weaker (k a) d (keeps a d made)
 
 keeps_any : {A : Type 0} (Q : A → Situation → Type 0) → ((x : A) (d : Situation) → Q x d) → (tree : DeviceTree A) (c : Situation) → Keeps allowed Q tree c
 keeps_any Q all (Done x) c = all x c
@@ -213,7 +208,7 @@ stays_while step each (suc n) r c on =
         → (q.over ≡ false → Keeps allowed (λ x e. Step Same q d x e) (while_up_to n step q) d)
         → Keeps allowed (λ x e. Step Same r c x e) (elim b as (λ _. DeviceTree Filling) [ true ↦ while_up_to n step q | false ↦ Done q ]) d
     by q d true a rest =
-        keeps_weaker (λ x e. Step Same q d x e) (λ x e. Step Same r c x e) (λ x e b. one_then Same Same Same r c q d x e (same_then r c q d x e) a.0 b)
+        keeps_weaker allowed (λ x e. Step Same q d x e) (λ x e. Step Same r c x e) (λ x e b. one_then Same Same Same r c q d x e (same_then r c q d x e) a.0 b)
         (while_up_to n step q) d (rest (a.1 refl))
     by q d false a rest = a.0
 
@@ -533,7 +528,7 @@ module _ (e : DeviceEntry) where
       ]) d
       by None is = held_none Served r c q d held is
       by (Some chain) is = λ a f made.
-          keeps_weaker (λ x g. Step Served q d x g) (λ x g. Step Served r c x g)
+          keeps_weaker allowed (λ x g. Step Served q d x g) (λ x g. Step Served r c x g)
           (λ x g step. one_then Same Served Served r c q d x g (then_serves e.slot r c q d x g) held.step step) (read_answered chain e a.0 a.1 q) f
           (answered chain a.0 a.1 (read_room (free_of e.value.end.credit) chain) q d f at made)
 
@@ -586,7 +581,7 @@ serves_slot slot r c = by r.over refl
         → Keeps allowed (λ x f. Step (Serves slot) r c x f) (cond b (Done q) (while_up_to OWED_MAX (put_owed slot) q)) d
     pays q d step true over = step
     pays q d step false on =
-        keeps_weaker (λ x f. Step Same q d x f) (λ x f. Step (Serves slot) r c x f)
+        keeps_weaker allowed (λ x f. Step Same q d x f) (λ x f. Step (Serves slot) r c x f)
         (λ x f same. one_then (Serves slot) Same (Serves slot) r c q d x f (serves_then slot r c q d x f) step same)
         (while_up_to OWED_MAX (put_owed slot) q) d (stays_while (put_owed slot) (puts_owed slot) OWED_MAX q d on)
 
@@ -629,7 +624,7 @@ serves_each [] r c = record { rises = omega arith; same = λ put o. (o, record {
 serves_each (slot ∷ is) r c =
     keeps_then allowed (λ x d. Step (ServesAll (slot ∷ is)) r c x d) (λ q d. Step (Serves slot) r c q d) (serve_slot slot r) (for_each serve_slot is) c
     (serves_slot slot r c)
-    (λ q d step. keeps_weaker (λ x f. Step (ServesAll is) q d x f) (λ x f. Step (ServesAll (slot ∷ is)) r c x f)
+    (λ q d step. keeps_weaker allowed (λ x f. Step (ServesAll is) q d x f) (λ x f. Step (ServesAll (slot ∷ is)) r c x f)
     (λ x f a. one_then (Serves slot) (ServesAll is) (ServesAll (slot ∷ is)) r c q d x f (serves_more slot is r c q d x f) step a)
     (for_each serve_slot is q) d (serves_each is q d))
 
@@ -650,7 +645,7 @@ all_slots : (s : DeviceState) (r : Filling) (c : Situation) (q : Filling) (d : S
 all_slots s r c q d step true over = is_over AllDry r c q d step.rises over
 all_slots s r c q d step false on =
     let round = round_from q.state.last_put (slots q.state.table) in
-    keeps_weaker (λ x f. Step (ServesAll round) q d x f) (λ x f. Step AllDry r c x f)
+    keeps_weaker allowed (λ x f. Step (ServesAll round) q d x f) (λ x f. Step AllDry r c x f)
     (λ x f a. one_then Same (ServesAll round) AllDry r c q d x f
     (λ same all. (
       λ n id at. all.all n (in_round q.state.last_put (slots q.state.table) n

@@ -8,12 +8,12 @@ use Rattle.std.specs.Option.{option_map, option_map_or}
 use Rattle.vs_flow.{specs.{Connection.Connection, Flow.same_flow, Table.{IsTable, Table, entry_of}, declared.{flow.Flow.Flow, table.Entry.Entry}}, proofs.Lookups.entry_under_found}
 use Rattle.laws_tables.{proofs.Slots.found_by, specs.Ends.{flows_of, is_among}}
 use Rattle.vs_conn.specs.End.{ConnectionEnd}
-use Rattle.vs_outside.specs.{Host.{HostContents, Stream, stream_at, waits}, HostBytes.stream_of, HostProgram.closes, declared.host_net.StreamState.StreamState}
+use Rattle.vs_outside.specs.{Host.{HostContents, Stream, stream_at}, HostBytes.stream_of, HostProgram.closes, declared.host_net.StreamState.StreamState}
 use Rattle.vs_page.{specs.Log.Log, proofs.Flows.{same_is, same_self}}
 use Rattle.vs_device_parts.specs.State.{DeviceConnection, DeviceEntry}
 use Rattle.vs_proxy_parts.specs.State.{Handshake}
-use Rattle.laws_device.specs.{Honest.end_in, Streams.{is_open_in, is_open_on}, Carried.Streamed.{IsJoined, IsStreamed, Seen, client_waits, connection_in, connection_of, count_in}}
-use Rattle.laws_device.{specs.Carried.Streamed.{Ports, look, seen}, proofs.{Waiting.open_among, Carried.{Closing.{is_under, named}, Hosts.{label_here, label_there, stream_is}}}}
+use Rattle.laws_device.specs.{Honest.end_in, Streams.{is_open_in, is_open_on}, Carried.Streamed.{IsJoined, IsStreamed, Seen, connection_in, connection_of, count_in}}
+use Rattle.laws_device.{specs.Carried.Streamed.{Ports, look, seen}, proofs.{Waiting.{open_among, open_of}, Carried.{Closing.{is_under, named}, Hosts.{label_here, stream_is}}}}
 use Rattle.laws_device.proofs.Carried.Hosts.{there}
 use Rattle.laws_rest.proofs.Hosts.{stream_seen}
 use Rattle.laws_run.specs.{Complete.{open_label, open_labels}, Dry.{OfOpen, stream_open}}
@@ -220,34 +220,13 @@ module _ (h : HostContents) (log : Log) (port : Ports) (t : Table DeviceConnecti
           (none_apart g (filter_map open_label xs) (label_open g xs ∙ differs g passes (list_any (is_open_on g) xs) refl), rest)
 
   -- The stream of a connection is open.
-  opens_by : (s : StreamState) → waits s ≡ false → closes s ≡ false → is_open_in s ≡ true
-  opens_by state.Waiting a b = absurd cc
-  opens_by state.Open a b = refl
-  opens_by state.Closed a b = absurd cc
-
   pub has_stream : (e : DeviceEntry) → Contains t.entries e → HasStream h log e
   has_stream e is =
       let j = All-contains (IsJoined (look h) (count_in h) log) t.entries e streamed.joined is in
-      let st = there e.value.stream h j.stream j.there in
-      let its = ap (λ (s : Seen). s.label) st.is ∙ j.label in
-      let label : st.stream.label ≡ Some e.flow = (label_there h e.value.stream st.stream.label (connection_of e log) its).0 in
+      let o = open_of h log port t hands streamed e is (is_open e is) in
       let some = (streamed.streams.labels e.value.stream j.stream (connection_of e log) j.there j.label).some in
-      let still : closes st.stream.state ≡ false = ap (λ (s : Seen). s.closed) st.is ∙ j.closed ∙ is_open e is in
-      record {
-        stream = st.stream;
-        at = st.at;
-        label = label;
-        its = stream_is h e.value.stream st.stream (connection_of e log) some st.at its;
-        opened = opens_by st.stream.state (waits_not e.value.stream st.stream st.at e.flow label (waits st.stream.state) refl) still;
-      }
-    where
-      waits_not : (id : ℕ) (st : Stream) → stream_at id h ≡ Some st → (f : Flow) → st.label ≡ Some f → (b : Bool) → waits st.state ≡ b
-          → waits st.state ≡ false
-      waits_not id st at f label false is = is
-      waits_not id st at f label true is =
-          let client : seen h id st ≡ client_waits = streamed.streams.waiting id (seen h id st) (ap (option_map (seen h id)) at) is in
-          let both : None ≡ Some (connection_in h id f) = sym (ap (λ (s : Seen). s.label) client) ∙ label_here h id st f label in
-          absurd cc
+      record { stream = o.stream; at = o.at; label = o.label; its = stream_is h e.value.stream o.stream (connection_of e log) some o.at o.joined; opened = o.opened }
+
 
   -- What is so of it is so of its connection's.
   pub one_is : (P : Stream → Type 0) (e : DeviceEntry) → Contains t.entries e → ForSome (stream_at e.value.stream h) P → OfOpen (connection_of e log) h P

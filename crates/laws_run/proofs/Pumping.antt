@@ -10,10 +10,10 @@ use Rattle.vs_device_parts.specs.{Calls.{Allows, CloseStream, DeviceTree, HostMo
 use Rattle.vs_device_parts.specs.{Connections.{cut_off, with_connection, with_fault}, Streams.{Writing, closing, is_written_out, pump_of, pump_slot, shut_write, to_write}}
 use Rattle.vs_device_parts.{specs.{Streams.{write_answered, write_pending}, State.{DeviceConnection, DeviceEntry, DeviceState}}, proofs.Under.has_slot}
 use Rattle.vs_proxy_parts.specs.{State.ProxyState, Turns.turn_of, declared.answers.{Turn.Turn, Turned.Turned}}
-use Rattle.laws_device.{specs.Honest.end_in, proofs.Walk.Keeping.{Keeps, keeps_then}}
+use Rattle.laws_device.{specs.Honest.end_in, proofs.Walk.Keeping.{Keeps, keeps_then, keeps_weaker}}
 use Rattle.laws_rest.proofs.{Owing.{listed, same_slots}, Quiet.in_list}
 use Rattle.laws_settled.{specs.Settled.LacksPages, proofs.Quieting.{LastFill, fill_lacks, last_fill}}
-use Rattle.laws_run.{specs.Dry.{AreIdle, IsFull, IsFullAt, IsToldFull, writes_of, writes_under}, proofs.Drying.{allowed, full_closed, host_moves, keeps_run, keeps_weaker, or_true}}
+use Rattle.laws_run.{specs.Dry.{AreIdle, IsFull, IsFullAt, IsToldFull, writes_of, writes_under}, proofs.Drying.{allowed, full_closed, host_moves, keeps_run, or_true}}
 use Rattle.laws_run.proofs.Drying.{stage_dry, stays_with, under_at, under_other, under_own}
 use Rattle.vs_outside.specs.declared.host_net.StreamWrite.TheVariants as write
 use Rattle.vs_proxy_parts.specs.declared.answers.Turn.TheVariants as turn
@@ -287,7 +287,7 @@ pumps slot w c = by (entry_under w.state.table slot) refl
         keeps_then allowed (λ x d. Step (Pumps slot) w c x d) (λ v d. Step (Pumps slot) w c v d) (write_pending e w) (shut_write slot) c
         (subst (λ (n : ℕ). Keeps allowed (λ x d. Step (Pumps n) w c x d) (write_pending e w) c) own
         (writes e w c (subst (λ (n : ℕ). entry_under w.state.table n ≡ Some e) (sym own) at)))
-        (λ v d step. keeps_weaker (λ x f. Step (Shuts slot) v d x f) (λ x f. Step (Pumps slot) w c x f)
+        (λ v d step. keeps_weaker allowed (λ x f. Step (Shuts slot) v d x f) (λ x f. Step (Pumps slot) w c x f)
         (λ x f a. step_then (Pumps slot) (Shuts slot) (Pumps slot) w c v d x f (pumps_then slot w c v d x f) step a) (shut_write slot v) d (shuts slot v d))
 
     by : (o : Option DeviceEntry) → entry_under w.state.table slot ≡ o → Keeps allowed (λ x d. Step (Pumps slot) w c x d) (elim o as (λ _. DeviceTree Writing) [
@@ -323,7 +323,7 @@ pumps_each : (is : List ℕ) (w : Writing) (c : Situation) → Keeps allowed (λ
 pumps_each [] w c = record { rises = omega arith; same = λ wrote. record { slots = refl; all = λ n at. absurd cc; keeps = λ n own. own } }
 pumps_each (slot ∷ is) w c =
     keeps_then allowed (λ x d. Step (PumpsAll (slot ∷ is)) w c x d) (λ v d. Step (Pumps slot) w c v d) (pump_slot slot w) (for_each pump_slot is) c (pumps slot w c)
-    (λ v d step. keeps_weaker (λ x f. Step (PumpsAll is) v d x f) (λ x f. Step (PumpsAll (slot ∷ is)) w c x f)
+    (λ v d step. keeps_weaker allowed (λ x f. Step (PumpsAll is) v d x f) (λ x f. Step (PumpsAll (slot ∷ is)) w c x f)
     (λ x f a. step_then (Pumps slot) (PumpsAll is) (PumpsAll (slot ∷ is)) w c v d x f (pumps_more slot is w c v d x f) step a)
     (for_each pump_slot is v) d (pumps_each is v d))
 

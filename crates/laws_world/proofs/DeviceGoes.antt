@@ -3,7 +3,7 @@ use Rattle.std.proofs.Common.{false, ℕ, subst}
 use Rattle.vs_page.specs.{Log.{Device, HasGotAll, flow_got}, declared.log.LogEntry.TheVariants.GotPacket}
 use Rattle.laws_tables.{specs.Both.{Both, IsSound, Seat}, proofs.{Fair.got_formed, Voices.{AreVoiced, voices_run}}}
 use Rattle.laws_device.proofs.{Seats.{Carried, PutsFit}, Carried.Cids.dropped_empty}
-use Rattle.laws_world.{proofs.Runs.{and_then, device_runs, got_before, keeps_sound, log_before}, specs.{Sides.Runs, World.first_cid}}
+use Rattle.laws_world.{proofs.Runs.{and_then, got_before, keeps_sound, log_before, step_runs}, specs.{Sides.Runs, World.first_cid}}
 
 -- The CIDs of packets stay as the two ends go on.
 pub cids_kept : (first : ℕ) (b c : Both) → Runs b c → IsSound first b → AreVoiced first b → AreVoiced first c
@@ -26,7 +26,7 @@ module _ (fresh : Type 0) (b : Both) (sound : IsSound first_cid b) (cids : AreVo
     holds = Walks;
     step = λ step w may asked fits was. (
       fits was.0,
-      λ got. and_then b (beside w) _ (was.1 (got_before Device b.driver.log step w got)) (device_runs b.driver step w may got),
+      λ got. and_then b (beside w) _ (was.1 (got_before Device b.driver.log step w got)) (step_runs Device step (beside w) may got),
     );
     plain = λ first log. HasGotAll log b.driver.log;
     before = λ first entry log got. log_before b.driver.log entry log got;

@@ -1,7 +1,7 @@
 -- Small steps of the two ends, one after another.
 use Rattle.std.proofs.Common.{◌≡◌, List, [], ◌∷◌, ◌++◌, refl, sym, ap, subst, ◌∙◌, ℕ, append_assoc}
-use Rattle.vs_page.specs.{Log.{Device, Driver, HasGotAll, Log, Role, packets_got, events_got}, declared.log.LogEntry.{LogEntry, TheVariants.{GotEvent, GotPacket}}}
-use Rattle.laws_tables.{specs.Both.{Asks, Both, Happening, IsSound, MayHappen, MayRun, Opens, Seat, Step, Takes, TakesEvent, after, happens, run}, proofs.Both.run_keeps}
+use Rattle.vs_page.specs.{Log.{Driver, HasGotAll, Log, Role, other_role, packets_got, events_got}, declared.log.LogEntry.{LogEntry, TheVariants.{GotEvent, GotPacket}}}
+use Rattle.laws_tables.{specs.Both.{Both, Happening, IsSound, MayHappen, MayRun, Seat, Step, Takes, TakesEvent, after, at, happens, run}, proofs.Both.run_keeps}
 use Rattle.laws_tables.proofs.Going.{Goes, MayDo, MayDoAll, done}
 use Rattle.laws_world.specs.Sides.{Runs}
 
@@ -46,33 +46,23 @@ got_before role other (Takes p answer) w got = log_before other (GotPacket p) w.
 got_before role other (TakesEvent id) w got = log_before other (GotEvent id) w.log got
 got_before role other step w got = record { packets = got.packets; events = got.events }
 
--- A step of the device's, where it got just what the driver put first.
-pub device_runs : (driver : Seat) (step : Step) (w : Seat) → MayDo Device step w → HasGotAll (after Device step w).log driver.log
-    → Runs (record { driver = driver; device = w }) (record { driver = driver; device = after Device step w })
-device_runs driver (Takes p answer) w may got = one_step Device (Takes p answer) _ _ got.packets refl
-device_runs driver (Opens f kind) w may got = one_step Device (Opens f kind) _ _ may refl
-device_runs driver (Asks f kind) w may got = one_step Device (Asks f kind) _ _ may refl
-device_runs driver (TakesEvent id) w may got = let no = may in absurd cc
-device_runs driver step w may got = one_step Device step _ _ may refl
+-- A step of an end, where it got just what the other put first.
+pub step_runs : (role : Role) (step : Step) (b : Both) → MayDo role step (at role b) → HasGotAll (after role step (at role b)).log (at (other_role role) b).log
+    → Runs b (happens role step b)
+step_runs role (Takes p answer) b may got = one_step role (Takes p answer) b _ got.packets refl
+step_runs role (TakesEvent id) b may got = one_step role (TakesEvent id) b _ (may, got.events) refl
+step_runs role step b may got = one_step role step b _ may refl
 
 -- Steps of the driver's, where it got just what the device put first.
 module _ (device : Seat) where
   abbrev pub beside_device : Seat → Both
   beside_device w = record { driver = w; device = device }
 
-  one_runs : (step : Step) (w : Seat) → MayDo Driver step w → HasGotAll (after Driver step w).log device.log
-      → Runs (beside_device w) (beside_device (after Driver step w))
-  one_runs (Takes p answer) w may got = one_step Driver (Takes p answer) _ _ got.packets refl
-  one_runs (TakesEvent id) w may got = one_step Driver (TakesEvent id) _ _ (refl, got.events) refl
-  one_runs (Opens f kind) w may got = one_step Driver (Opens f kind) _ _ may refl
-  one_runs (Asks f kind) w may got = let no = may.0 in absurd cc
-  one_runs step w may got = one_step Driver step _ _ may refl
-
   all_run : (v : Seat) (steps : List Step) → MayDoAll Driver steps v → HasGotAll (done Driver steps v).log device.log
       → Runs (beside_device v) (beside_device (done Driver steps v))
   all_run v [] may got = stays _ _ refl
   all_run v (step ∷ older) may got =
-      and_then _ _ _ (all_run v older may.0 (got_before Driver device.log step (done Driver older v) got)) (one_runs step (done Driver older v) may.1 got)
+      and_then _ _ _ (all_run v older may.0 (got_before Driver device.log step (done Driver older v) got)) (step_runs Driver step (beside_device (done Driver older v)) may.1 got)
 
   pub goes_run : (v w : Seat) → Goes Driver v w → HasGotAll w.log device.log → Runs (beside_device v) (beside_device w)
   goes_run v w goes got =

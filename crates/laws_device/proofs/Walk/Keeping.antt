@@ -14,6 +14,11 @@ module _ {S : Type 0} (K : Asking S) where
   Keeps Q (Done x) c = Q x c
   Keeps Q (Ask call next) c = K.asks call c (λ a d. Keeps Q (next a) d)
 
+  pub keeps_weaker : {A : Type 0} (Q R : A → S → Type 0) → ((x : A) (d : S) → Q x d → R x d) → (t : DeviceTree A) (c : S) → Keeps Q t c → Keeps R t c
+  keeps_weaker Q R then (Done x) c keeps = then x c keeps
+  keeps_weaker Q R then (Ask call next) c keeps =
+      K.weaker call c (λ a d. Keeps Q (next a) d) (λ a d. Keeps R (next a) d) (λ a d kept. keeps_weaker Q R then (next a) d kept) keeps
+
   module _ {A : Type 0} (Q : A → S → Type 0) where
     -- The first leads to what the second begins with.
     pub keeps_then : {B : Type 0} (R : B → S → Type 0) (p : DeviceTree B) (f : B → DeviceTree A) (c : S) → Keeps R p c
@@ -33,19 +38,33 @@ module _ {S : Type 0} (K : Asking S) where
     keeps_some None p f c none some = none refl
     keeps_some (Some x) p f c none some = some x refl
 
-  -- The same step again and again.
-  module _ {A : Type 0} (Q : A → S → Type 0) where
-    by_last : (n : ℕ) (step : A → DeviceTree (A × Bool)) → ((x : A) (c : S) → Q x c → Keeps Q (while_up_to n step x) c)
-        → (r : A × Bool) (d : S) → Q r.0 d → Keeps Q (elim r.1 [ true ↦ while_up_to n step r.0 | false ↦ Done r.0 ]) d
+  -- A step that says whether it goes on: where it does P holds, else E. The same step again and again.
+  abbrev pub Goes : {A : Type 0} → (A → S → Type 0) → (A → S → Type 0) → A × Bool → S → Type 0
+  Goes P E (x, true) c = P x c
+  Goes P E (x, false) c = E x c
+
+  module _ {A : Type 0} (P E : A → S → Type 0) (ends : (x : A) (c : S) → P x c → E x c) where
+    by_last : (n : ℕ) (step : A → DeviceTree (A × Bool)) → ((x : A) (c : S) → P x c → Keeps E (while_up_to n step x) c)
+        → (r : A × Bool) (d : S) → Goes P E r d → Keeps E (elim r.1 [ true ↦ while_up_to n step r.0 | false ↦ Done r.0 ]) d
     by_last n step rest (y, true) d kept = rest y d kept
     by_last n step rest (y, false) d kept = kept
 
+    pub goes_while : (step : A → DeviceTree (A × Bool)) → ((x : A) (c : S) → P x c → Keeps (Goes P E) (step x) c)
+        → (n : ℕ) (x : A) (c : S) → P x c → Keeps E (while_up_to n step x) c
+    goes_while step each zero x c holds = ends x c holds
+    goes_while step each (suc n) x c holds =
+        keeps_then E (Goes P E) (step x) (λ r. elim r.1 [ true ↦ while_up_to n step r.0 | false ↦ Done r.0 ]) c (each x c holds)
+        (by_last n step (λ y d kept. goes_while step each n y d kept))
+
+  module _ {A : Type 0} (Q : A → S → Type 0) where
+    same_goes : (r : A × Bool) (c : S) → Q r.0 c → Goes Q Q r c
+    same_goes (x, true) c holds = holds
+    same_goes (x, false) c holds = holds
+
     pub keeps_while : (step : A → DeviceTree (A × Bool)) → ((x : A) (c : S) → Q x c → Keeps (λ r d. Q r.0 d) (step x) c)
         → (n : ℕ) (x : A) (c : S) → Q x c → Keeps Q (while_up_to n step x) c
-    keeps_while step each zero x c holds = holds
-    keeps_while step each (suc n) x c holds =
-        keeps_then Q (λ r d. Q r.0 d) (step x) (λ r. elim r.1 [ true ↦ while_up_to n step r.0 | false ↦ Done r.0 ]) c (each x c holds)
-        (by_last n step (λ y d kept. keeps_while step each n y d kept))
+    keeps_while step each = goes_while Q Q (λ x c holds. holds) step (λ x c holds.
+        keeps_weaker (λ r d. Q r.0 d) (Goes Q Q) same_goes (step x) c (each x c holds))
 
     pub keeps_each : {X : Type 0} (step : X → A → DeviceTree A) → ((i : X) (x : A) (c : S) → Q x c → Keeps Q (step i x) c)
         → (is : List X) (x : A) (c : S) → Q x c → Keeps Q (for_each step is x) c

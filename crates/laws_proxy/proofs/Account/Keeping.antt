@@ -52,7 +52,4 @@ module _ {A : Type 0} (Q : A → List Made → Type 0) where
 -- What is weaker is kept too.
 pub keeps_weaker : {A : Type 0} (Q R : A → List Made → Type 0) (p : DeviceTree A) (calls : List Made)
     → ((x : A) (later : List Made) → Q x later → R x later) → Keeps Q p calls → Keeps R p calls
-keeps_weaker {A} Q R (Done x) calls then keeps = then x calls keeps
-keeps_weaker {A} Q R (Ask call next) calls then keeps =
-    asks_weaker call calls (Answered Q call next calls) (Answered R call next calls)
-    (λ kept. λ a fit. keeps_weaker Q R (next a) (made call a ∷ calls) then (kept a fit)) keeps
+keeps_weaker Q R p calls then = walked.keeps_weaker asking Q R then p calls
