@@ -23,11 +23,11 @@ front_of_front xs ys zs one two =
 -- The bytes after the first line, with more bytes behind.
 rest_more : (xs ys : List ℕ) → IsPrefixOf (rest_of xs) (rest_of (xs ++ ys))
 rest_more [] ys = (rest_of ys, refl)
-rest_more (x ∷ xs) ys = by (x == 10)
+rest_more (x ∷ xs) ys = by (x == 10) (rest_more xs ys)
   where
-    by : (b : Bool) → IsPrefixOf (cond b xs (rest_of xs)) (cond b (xs ++ ys) (rest_of (xs ++ ys)))
-    by true = (ys, refl)
-    by false = rest_more xs ys
+    by : (b : Bool) → IsPrefixOf (rest_of xs) (rest_of (xs ++ ys)) → IsPrefixOf (cond b xs (rest_of xs)) (cond b (xs ++ ys) (rest_of (xs ++ ys)))
+    by true later = (ys, refl)
+    by false later = later
 
 after_more : (xs ys : List ℕ) → IsPrefixOf (after_line xs) (after_line (xs ++ ys))
 after_more xs ys =
@@ -88,7 +88,7 @@ all_came_back port script start g s met first h faults run began unlabelled show
     let from : ForSome start.contents IsUnlabelled =
     subst (λ (x : Start). ForSome x.contents IsUnlabelled) (sym began) (λ c is. subst IsUnlabelled (same_Some first c is) unlabelled) in
     let right = run.right from h shows in
-    came_back script g right.0 g.end.log h echo right.1.0.connections
+    came_back script g right.0 g.end.log h echo right.1.connections
 
 -- The same of a script, entries and bytes that are those.
 pub same_came_back : (own script : RunScript) (es fs : List Entry) (bs cs : List ℕ) → script ≡ own → fs ≡ es → cs ≡ bs
