@@ -1,7 +1,6 @@
 -- Where each call's answer is determined, so is a conversation's.
-use Rattle.std.proofs.Common.{arith}
 use Rattle.std.proofs.lemmas.Grind.{common_steps}
-use Rattle.std.proofs.Common.{◌≡◌, ℕ, ◌+◌, List, length, take, Option, refl, sym, ap, ◌∙◌, subst}
+use Rattle.std.proofs.Common.{arith, ◌≡◌, ℕ, ◌+◌, List, length, take, Option, refl, sym, ap, ◌∙◌, subst}
 use Rattle.vs_contents.specs.{CallTree.{Ask, CallTree, Done, Leads, played}}
 use Rattle.vs_ring_port.specs.{EndLog.{EndLog, log_loaded, log_reaped, log_taken}, declared.device_ring.Next.Next, Contents.{DeviceAnswer, DeviceCall, Given, PublishCid, Read}}
 use Rattle.vs_ring_port.specs.{Contents.{Return, RingContents, Take, Write}, DriverCalls.{DriverAllows, DriverAnswer, DriverCall, DriverMoves, LoadCid, Publish, Reap, Stage}}

@@ -1,7 +1,6 @@
 -- Accesses that change nothing.
-use Rattle.std.proofs.Common.{arith}
 use Rattle.std.proofs.lemmas.Grind.{common_steps}
-use Rattle.std.proofs.Common.{◌≡◌, ℕ, [], refl}
+use Rattle.std.proofs.Common.{arith, ◌≡◌, ℕ, [], refl}
 use Rattle.vs_guest_mem.specs.Memory.{Memory, accessed}
 use Rattle.vs_ring_port.specs.declared.queue.Queue.{Queue, TheVariants.Rx}
 use Rattle.vs_ring_list.specs.Ends.{Ends}
