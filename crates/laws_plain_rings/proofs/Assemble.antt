@@ -1,4 +1,5 @@
 -- Both ends put together from their queues.
+use Rattle.std.proofs.lemmas.Grind.{common_steps}
 use Rattle.std.proofs.Common.{◌≡◌, ℕ, ◌+◌, ◌*◌, ◌<◌, ◌≤◌, false, List, Some, refl, sym, ap, ◌∙◌, subst, arith}
 use Rattle.vs_guest_mem.specs.Memory.{Memory, bytes_at}
 use Rattle.vs_page.specs.Log.{Log}
@@ -8,7 +9,7 @@ use Rattle.vs_ring_plain.specs.{Device.{HeldChain, turns_at, with_turns}, declar
 use Rattle.vs_plain_driver.specs.Queue.{DriverQueueState}
 use Rattle.laws_plain_rings.specs.{Parts.{PartsState, driver_at, with_driver, with_parts_memory}, Queue.{IsQueueTied, times}, Shown.{Shown, shown}, Tie.{AreHeldAs, AreTied}}
 use Rattle.laws_plain_rings.{specs.Tie.{IsTiedAt, areas_of, heads_of, shown_of, start_in, start_of}, proofs.{Held.{held_kept, held_moved}, QueueSteps.tie_same, Queues.of_each}}
-use Rattle.laws_plain_rings.proofs.{Queues.of_pairs, Spots.{laid_same, Wrote, Spot, DiffersAll, PageOf}}
+use Rattle.laws_plain_rings.proofs.{Spots.{laid_same, Wrote, Spot, DiffersAll, PageOf}}
 
 -- one queue of both ends, as its tie sees it
 pub record QueueParts : Type 0 where
@@ -103,19 +104,10 @@ module _ (p : PartsState) (w : Ends) (tied : AreTied p w) (queue : Queue) where
     kept r = record (parts_at p w r) { s = shown (areas_of p r) (start_of p r) m; heads = heads_of r held }
 
     parts_here : parts_at new then queue ≡ changed
-    parts_here = here queue
-      where
-        here : (r : Queue) → parts_at (parts_form r q m t held p) (ends_form r staged l sent got gs w) r
-            ≡ record changed {
-              s = shown (areas_of p r) (start_in q.pages_at) m;
-              heads = heads_of r held;
-            }
-        here queue = search arith
+    parts_here = grind (arith, common_steps)
 
     parts_beside : (r : Queue) → same_queue queue r ≡ false → parts_at new then r ≡ kept r
-    parts_beside r other =
-        of_pairs (λ x r. parts_at (parts_form x q m t held p) (ends_form x staged l sent got gs w) r ≡ kept r) refl refl refl refl refl refl
-        queue r other
+    parts_beside r other = grind (arith, common_steps)
 
     lists_stay : (r : Queue) → ((with_queue r l w.lists).size ≡ w.lists.size) × ((with_queue r l w.lists).cid ≡ w.lists.cid)
     lists_stay r = search arith

@@ -1,23 +1,17 @@
 -- What a write leaves in a memory.
-use Rattle.std.proofs.Common.{inl, inr, ◌≡◌, ◌⊎◌, ℕ, ◌+◌, ◌-◌, ◌≤◌, List, ◌++◌, length, take, drop, ap, ◌∙◌, subst, arith, length-append, length-drop, length-take-le, append_assoc}
-use Rattle.std.proofs.{Math.Seq.{take-append_seam, drop-append_seam}, lemmas.{List.{drop-take, take-take, take-append-le, drop-append-le}, Slice.drop-append-drop}}
+use Rattle.std.proofs.lemmas.Grind.{common_steps}
+use Rattle.std.proofs.Common.{inl, inr, ◌≡◌, ◌⊎◌, ℕ, ◌+◌, ◌-◌, ◌≤◌, List, ◌++◌, length, take, drop, ap, ◌∙◌, arith, length-append, length-drop, length-take-le, append_assoc}
+use Rattle.std.proofs.{lemmas.{List.{drop-take, take-take, take-append-le, drop-append-le}, Slice.drop-append-drop}}
 use Rattle.vs_guest_mem.specs.Memory.{Memory, after_write, bytes_at, overwritten}
 
 -- as many bytes as before
 pub length_over : (old : List ℕ) (p : ℕ) (new : List ℕ) → p + length new ≤ length old → length (overwritten old p new) ≡ length old
-length_over old p new fits =
-    simp (length-append, length-drop) (omega (arith, length-take-le p old (omega (arith, fits)), fits))
+length_over old p new fits = grind (arith, common_steps)
 
 -- those that were written
 pub over_here : (old : List ℕ) (p : ℕ) (new : List ℕ) → p + length new ≤ length old → take (length new) (drop p (overwritten old p
     new)) ≡ new
-over_here old p new fits =
-    let rest = drop (p + length new) old in
-    let front : length (take p old) ≡ p = length-take-le p old (omega (arith, fits)) in
-    ap (λ xs. take (length new) (drop p xs)) (append_assoc (take p old) new rest)
-    ∙ ap (λ xs. take (length new) xs)
-    (subst (λ k. drop k (take p old ++ (new ++ rest)) ≡ new ++ rest) front (drop-append_seam (take p old) (new ++ rest)))
-    ∙ take-append_seam new rest
+over_here old p new fits = grind (arith, common_steps)
 
 -- those before
 pub over_before : (old : List ℕ) (p : ℕ) (new : List ℕ) (q k : ℕ) → p ≤ length old → q + k ≤ p
@@ -60,5 +54,4 @@ kept m a bytes b k from to above (inr behind) =
 -- pieces of two pieces that are apart
 pub inner : (a la b lb a2 la2 b2 lb2 : ℕ) → (a + la ≤ b) ⊎ (b + lb ≤ a) → a ≤ a2 → a2 + la2 ≤ a + la → b ≤ b2 → b2 + lb2 ≤ b + lb
     → (a2 + la2 ≤ b2) ⊎ (b2 + lb2 ≤ a2)
-inner a la b lb a2 la2 b2 lb2 (inl before) fa ta fb tb = inl (omega (arith, before, ta, fb))
-inner a la b lb a2 la2 b2 lb2 (inr behind) fa ta fb tb = inr (omega (arith, behind, tb, fa))
+inner a la b lb a2 la2 b2 lb2 h fa ta fb tb = grind (arith, common_steps)

@@ -1,9 +1,10 @@
 -- Chains that the device holds, with their bytes.
-use Rattle.std.proofs.Common.{◌≡◌, ℕ, zero, suc, ◌+◌, ◌*◌, ◌<◌, ◌≤◌, Bool, true, false, cond, not, ◌&&◌, ◌==◌, List, [], ◌∷◌, length, map, get_or, Some, Contains, refl, sym, ap}
+use Rattle.std.proofs.lemmas.Grind.{common_steps}
+use Rattle.std.proofs.Common.{◌≡◌, ℕ, zero, suc, ◌+◌, ◌<◌, ◌≤◌, Bool, true, false, cond, not, ◌&&◌, ◌==◌, List, [], ◌∷◌, length, map, get_or, Some, Contains, refl, sym, ap}
 use Rattle.std.{proofs.{Common.{◌∙◌, subst, arith}, lemmas.{Bool.false≢true, List.Sums.sum_by-cons}}, specs.Prelude.count_by}
 use Rattle.vs_ring_list.proofs.Held.{same_chain_is, same_chain_refl, same_queue_is, same_queue_refl}
 use Rattle.vs_ring_port.specs.{Chains.{Held, bytes_in, held_of, same_chain, same_queue, with_bytes, without_held}, declared.{device_ring.Chain.Chain, queue.Queue.Queue}}
-use Rattle.vs_ring_plain.specs.{Device.{HeldChain, hold_of, without_hold}, declared.piece.Piece.Piece}
+use Rattle.vs_ring_plain.specs.{Device.{HeldChain, hold_of, without_hold}}
 use Rattle.laws_plain_rings.{specs.{Queue.times, Shown.Shown, Tie.{AreHeldAs, IsHeldAs, heads_of}}, proofs.{Counting.{here, times-cons, times-self}, Queues.turned}}
 
 -- the first chain that is held, or a later one
@@ -23,11 +24,7 @@ heads_here h held = rw (same_queue_refl h.chain.queue) refl
 module _ (f : List ℕ → ℕ) (f-cons : (x : ℕ) (xs : List ℕ) → f (x ∷ xs) ≡ f (x ∷ []) + f xs) where
   heads_sum : (q : Queue) (h : HeldChain) (held : List HeldChain)
       → f (heads_of q (h ∷ held)) ≡ cond (same_queue q h.chain.queue) (f (h.head ∷ [])) 0 + f (heads_of q held)
-  heads_sum q h held = by (same_queue q h.chain.queue)
-    where
-      by : (b : Bool) → f (cond b (h.head ∷ heads_of q held) (heads_of q held)) ≡ cond b (f (h.head ∷ [])) 0 + f (heads_of q held)
-      by true = f-cons h.head (heads_of q held)
-      by false = omega arith
+  heads_sum q h held = grind (arith, common_steps)
 
   -- the others of its queue are those without it
   heads_less : (c : Chain) (held : List HeldChain) (hold : HeldChain) → hold_of c held ≡ Some hold
@@ -73,16 +70,7 @@ heads_first h held = subst (λ (xs : List ℕ). 0 < times h.head xs) (sym (heads
 module _ (at to : Queue → ℕ) (same_start : (q : Queue) → to q ≡ at q) where
   held_one : (s new : Queue → Shown) (h : HeldChain) (g : Held)
       → ((c : ℕ) → c ≤ 4096 → (new h.chain.queue).page h.head c ≡ (s h.chain.queue).page h.head c) → IsHeldAs at s h g → IsHeldAs to new h g
-  held_one s new h g same one = record {
-    chain = one.chain;
-    pieces = one.pieces
-        ∙ ap (λ (a : ℕ). let x : Piece = record { addr = a + 4096 * h.head; len = h.chain.readable + h.chain.writable } in x ∷ []) (sym
-        (same_start h.chain.queue));
-    bytes = same (length g.bytes) one.fits ∙ one.bytes;
-    fits = one.fits;
-    room = one.room;
-    readable = one.readable;
-  }
+  held_one s new h g same one = grind (arith, common_steps)
 
   pub held_moved : (s new : Queue → Shown) (held : List HeldChain) (gs : List Held)
       → ((q : Queue) (id : ℕ) → 0 < times id (heads_of q held) → (c : ℕ) → c ≤ 4096 → (new q).page id c ≡ (s q).page id c)

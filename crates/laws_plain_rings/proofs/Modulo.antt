@@ -1,6 +1,7 @@
 -- Places of a ring: indices modulo its size, which divides 2^16.
-use Rattle.std.proofs.{Common.{inl, inr, ◌⊎◌, true, false, ◌≡◌, ℕ, ◌+◌, ◌*◌, ◌/◌, ◌%◌, ◌^◌, ◌<◌, ◌≤◌, sym, ap, ◌∙◌, subst, arith}, Math.Nat.{add-mul, mul-add-mod_self_right}}
-use Rattle.std.{proofs.{Math.Nat.mul-le-mul_right, lemmas.{Bool.Decides.leb_tells, Nat.{div-add-mod', mod-mul-add}}}, specs.Prelude.nat_le as leb}
+use Rattle.std.proofs.lemmas.Grind.{common_steps}
+use Rattle.std.proofs.{Common.{◌≡◌, ℕ, ◌+◌, ◌*◌, ◌/◌, ◌%◌, ◌^◌, ◌<◌, sym, ap, ◌∙◌, subst, arith}, Math.Nat.{mul-add-mod_self_right}}
+use Rattle.std.{proofs.{lemmas.{Nat.{div-add-mod', mod-mul-add}}}}
 
 -- the index may run modulo 2^16
 pub wraps : (n a : ℕ) → 2 ^ 16 % n ≡ 0 → (a % 2 ^ 16) % n ≡ a % n
@@ -28,23 +29,7 @@ wraps_further n a k divides = further n (a % 2 ^ 16) a k (wraps n a divides)
 
 -- the places of fewer than n indices in a row are different ones
 pub apart : (n a b : ℕ) → a < b → b < a + n → a % n ≡ b % n → ⊥
-apart n a b less near same =
-    by (leb_tells (b / n) (a / n))
-  where
-    da : a / n * n + a % n ≡ a
-    da = div-add-mod' a n
-
-    db : b / n * n + b % n ≡ b
-    db = div-add-mod' b n
-
-    by : ((leb (b / n) (a / n) ≡ true) × (b / n ≤ a / n)) ⊎ ((leb (b / n) (a / n) ≡ false) × (a / n < b / n)) → ⊥
-    by (inl (test, under)) =
-        let le : b / n * n ≤ a / n * n = mul-le-mul_right n under in
-        omega (arith, le, da, db, same, less)
-    by (inr (test, over)) =
-        let le : (a / n + 1) * n ≤ b / n * n = mul-le-mul_right n (omega (arith, over)) in
-        let one : (a / n + 1) * n ≡ a / n * n + 1 * n = add-mul (a / n) 1 n in
-        omega (arith, le, one, da, db, same, near)
+apart n a b less near same = grind (arith, common_steps)
 
 pub mod_small : (x n : ℕ) → x < n → x % n ≡ x
 mod_small x n less = subst (λ (y : ℕ). y % n ≡ x) (omega arith) (mod-mul-add 0 n x less)

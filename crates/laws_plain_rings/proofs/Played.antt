@@ -1,6 +1,7 @@
 -- Where each call's answer is determined, so is a conversation's.
-use Rattle.std.proofs.Common.{◌≡◌, ℕ, ◌+◌, List, length, take, Option, Some, refl, sym, ap, ◌∙◌, subst}
-use Rattle.vs_contents.specs.{CallTree.{Ask, CallTree, Done, Leads, played}, Contents.Exposes}
+use Rattle.std.proofs.lemmas.Grind.{common_steps}
+use Rattle.std.proofs.Common.{arith, ◌≡◌, ℕ, ◌+◌, List, length, take, Option, refl, sym, ap, ◌∙◌, subst}
+use Rattle.vs_contents.specs.{CallTree.{Ask, CallTree, Done, Leads, played}}
 use Rattle.vs_ring_port.specs.{EndLog.{EndLog, log_loaded, log_reaped, log_taken}, declared.device_ring.Next.Next, Contents.{DeviceAnswer, DeviceCall, Given, PublishCid, Read}}
 use Rattle.vs_ring_port.specs.{Contents.{Return, RingContents, Take, Write}, DriverCalls.{DriverAllows, DriverAnswer, DriverCall, DriverMoves, LoadCid, Publish, Reap, Stage}}
 use Rattle.vs_ring_port.specs.{DriverCalls.driver_answer, Lists.{Rings, after_publish, after_return, next_at, oldest, queue_of}, DeviceCalls.{DeviceAllows, DeviceMoves}}
@@ -22,25 +23,15 @@ leads_played {S = S} Allows answer Seen each (Ask call k) s c x d seen (a, m, al
     subst (λ b. ((played answer (k b) (answer call s).1).0 ≡ x) × Seen (played answer (k b) (answer call s).1).1 d) (sym e.0) r
 
 -- what is exposed after a call of which it was before
-moved : {T : Type 0} (old new : Option T) (P : T → Type 0) (f : T → T) (v : T) → old ≡ Some v → Exposes old new P f
-    → P v × (new ≡ Some (f v))
-moved {T} old new P f v is holds = subst (λ (o : Option T). Exposes o new P f) is holds
-
 driver_moved : (call : DriverCall) (a : DriverAnswer call) (P : Rings → Type 0) (f : Rings → Rings) (Q : EndLog → Type 0)
     (g : EndLog → EndLog) (w : Ends) (c d : RingContents) → ShowsDriver w c → DriverMoves call a P f Q g c d
     → P w.lists × Q w.driver × ShowsDriver (record w { lists = f w.lists; driver = g w.driver }) d
-driver_moved call a P f Q g w c d shows m =
-    let lists = moved c.lists d.lists P f w.lists shows.lists m.lists in
-    let log = moved c.log d.log Q g w.driver shows.log m.log in
-    (lists.0, log.0, record { lists = lists.1; log = log.1; other = m.other ∙ shows.other })
+driver_moved call a P f Q g w c d shows m = grind (arith, common_steps)
 
 device_moved : (call : DeviceCall) (a : DeviceAnswer call) (P : Rings → Type 0) (f : Rings → Rings) (Q : EndLog → Type 0)
     (g : EndLog → EndLog) (w : Ends) (c d : RingContents) → ShowsDevice w c → DeviceMoves call a P f Q g c d
     → P w.lists × Q w.device × ShowsDevice (record w { lists = f w.lists; device = g w.device }) d
-device_moved call a P f Q g w c d shows m =
-    let lists = moved c.lists d.lists P f w.lists shows.lists m.lists in
-    let log = moved c.log d.log Q g w.device shows.log m.log in
-    (lists.0, log.0, record { lists = lists.1; log = log.1; other = m.other ∙ shows.other })
+device_moved call a P f Q g w c d shows m = grind (arith, common_steps)
 
 -- the ends that the driver's lists and log are of, and the device's
 abbrev by_driver : EndLog → Rings × EndLog → Ends

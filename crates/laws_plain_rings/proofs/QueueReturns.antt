@@ -1,5 +1,6 @@
 -- One queue whose lists lie in its memory, as pages are taken, returned and reaped.
-use Rattle.std.proofs.{Common.{◌≡◌, ℕ, zero, suc, ◌+◌, ◌%◌, ◌^◌, ◌<◌, ◌≤◌, List, [], ◌∷◌, ◌++◌, length, None, refl, sym, ap, ◌∙◌, subst, arith}, lemmas.List.get_or-set_other}
+use Rattle.std.proofs.lemmas.Grind.{common_steps}
+use Rattle.std.proofs.{Common.{◌≡◌, ℕ, zero, suc, ◌+◌, ◌%◌, ◌^◌, ◌<◌, ◌≤◌, List, [], ◌∷◌, ◌++◌, length, None, refl, sym, ap, ◌∙◌, subst, arith}}
 use Rattle.std.{proofs.lemmas.{List.length-set, Nat.mod_below}, specs.Prelude.set}
 use Rattle.vs_ring_port.specs.{Lists.Lists, declared.queue.Queue.Queue}
 use Rattle.vs_ring_plain.specs.declared.turns.Turns.{Turns}
@@ -19,16 +20,8 @@ module _ {queue : Queue} {n at : ℕ} (nonzero : 0 < n) (divides : 2 ^ 16 % n �
     pub row : AreBack n s q.reaped (page ∷ pages) (id ∷ ids)
     row = subst (λ (ps : List (List ℕ)). AreBack n s q.reaped ps (id ∷ ids)) back_is tie.back_is
 
-    none_else : times id out + times id heads + times id ids ≡ 0
-    none_else = omega (arith, tie.once id, times-cons id id ids, times-self id)
-
     tie_reaped_pages : (j : ℕ) → 0 < times j out + times j heads + times j ids → (j < n) × HasPage (set q.pages id None) j
-    tie_reaped_pages j some =
-        let before = tie.pages j (omega (arith, some, times-cons j id ids)) in
-        (before.0, (before.1.0, get_or-set_other q.pages id j None None other ∙ before.1.1))
-      where
-        other : j ≡ id → ⊥
-        other same = omega (arith, some, none_else, ap (λ (x : ℕ). times x out + times x heads + times x ids) same)
+    tie_reaped_pages j some = grind (arith, common_steps)
 
     pub id_has : (id < n) × HasPage q.pages id
     id_has = tie.pages id (omega (arith, times-cons id id ids, times-self id))

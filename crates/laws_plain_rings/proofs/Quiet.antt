@@ -1,18 +1,15 @@
 -- Accesses that change nothing.
-use Rattle.std.proofs.Common.{◌≡◌, ℕ, ◌==◌, Bool, true, false, cond, [], refl}
-use Rattle.vs_guest_mem.specs.Memory.{Memory, accessed, after_access}
+use Rattle.std.proofs.lemmas.Grind.{common_steps}
+use Rattle.std.proofs.Common.{arith, ◌≡◌, ℕ, [], refl}
+use Rattle.vs_guest_mem.specs.Memory.{Memory, accessed}
 use Rattle.vs_ring_port.specs.declared.queue.Queue.{Queue, TheVariants.Rx}
 use Rattle.vs_ring_list.specs.Ends.{Ends}
 use Rattle.vs_ring_plain.specs.Device.{with_memory}
-use Rattle.laws_plain_rings.{specs.{Parts.PartsState, Shown.shown, Tie.{AreTied, areas_of, shown_of, start_of}}, proofs.Spots.{seen_same, quietly_wrote, quietly_now}}
-use Rattle.laws_plain_rings.proofs.{Spots.{quietly_after, IsQuietly}, Assemble.{step, held_after}, QueueSteps.tie_same}
+use Rattle.laws_plain_rings.{specs.{Parts.PartsState, Shown.shown, Tie.{AreTied, areas_of, shown_of, start_of}}, proofs.Spots.{seen_same, quietly_wrote}}
+use Rattle.laws_plain_rings.proofs.{Spots.{IsQuietly}, Assemble.{step, held_after}, QueueSteps.tie_same}
 
 pub quietly_accessed : (m : Memory) (k : ℕ) → m.changes ≡ [] → IsQuietly m (accessed m k)
-quietly_accessed m k still = by (k == 0)
-  where
-    by : (b : Bool) → IsQuietly m (cond b m (after_access m))
-    by true = quietly_now m still
-    by false = quietly_after m m (quietly_now m still)
+quietly_accessed m k still = grind (arith, common_steps)
 
 module _ (p : PartsState) (w : Ends) (tied : AreTied p w) (new : Memory) (quietly : IsQuietly p.device.memory new) where
   pub seen : (r : Queue) → shown (areas_of p r) (start_of p r) new ≡ shown_of p r

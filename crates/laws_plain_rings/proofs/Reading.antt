@@ -1,45 +1,21 @@
 -- Bytes of a chain that is held are read, and written.
-use Rattle.std.proofs.Common.{◌≡◌, ℕ, ◌+◌, ◌-◌, ◌*◌, ◌<◌, ◌≤◌, Bool, true, false, cond, List, [], ◌∷◌, ◌++◌, length, take, drop, Contains, refl, sym, ap, ap₂, ◌∙◌, subst, arith}
-use Rattle.std.{proofs.{Common.{length-append, length-drop, length-take-le}, Math.Seq.take-length, lemmas.List.nil_from_length}, specs.Prelude.◌==◌}
+use Rattle.std.proofs.lemmas.Grind.{common_steps}
+use Rattle.std.proofs.Common.{◌≡◌, ℕ, ◌+◌, ◌-◌, ◌*◌, ◌<◌, ◌≤◌, true, List, [], ◌∷◌, length, take, drop, Contains, refl, sym, ap, ap₂, ◌∙◌, subst, arith}
 use Rattle.vs_guest_mem.specs.Memory.{Memory, accessed, after_write, bytes_at}
 use Rattle.vs_page.specs.Overwriting.{overwritten}
 use Rattle.vs_ring_port.specs.{declared.{queue.Queue.{TheVariants.{Rx, Tx, Event}, Queue}, device_ring.Chain.Chain}, Chains.{bytes_in, same_queue, with_bytes}, Contents.Read}
 use Rattle.vs_ring_port.specs.{Contents.Write, EndLog.pages_at, Lists.{queue_of, with_queue}}
 use Rattle.vs_ring_list.{specs.{Ends.Ends, Sound.IsTied}, proofs.Held.same_queue_refl}
 use Rattle.vs_ring_plain.specs.{Device.{DeviceState, answer_to, chains_held, hold_of, pieces_of, turns_at, with_memory}, Accesses.over, Pieces.{reading, spans, writing}}
-use Rattle.vs_ring_plain.{specs.declared.piece.Piece.Piece, proofs.Moving.{is_zero, read_step, skipped, unwritten, used}}
+use Rattle.vs_ring_plain.{specs.declared.piece.Piece.Piece}
 use Rattle.laws_plain_rings.specs.{Tie.{AreHeldAs, AreTied, areas_of, heads_of, shown_of, start_of}, Calls.after_device, Parts.{PartsState, driver_at}, Queue.times, Shown.shown}
 use Rattle.laws_plain_rings.proofs.{Spots.{PageOf, high, low, Wrote, wrote, wrote_then, quietly_wrote, IsQuietly}, Assemble.{step, parts_form, ends_form}, Held.{Found, found}}
 use Rattle.laws_plain_rings.proofs.{Held.held_written, Parts.{read_part, written_part}, QueueSteps.tie_written, Queues.of_each, Quiet.{quiet_step, quietly_accessed}}
 
 -- a part of one piece
-read_one : (p : Piece) (place count : ℕ) (m : Memory) → place + count ≤ p.len
-    → over (reading (spans (p ∷ []) place count) []) m ≡ (bytes_at (accessed m count) (p.addr + place) count, accessed m count)
-read_one p place count m within =
-    let from : skipped p place ≡ place = omega (arith, within) in
-    let much : used p place count ≡ count = omega (arith, within) in
-    read_step p [] place count [] m
-    ∙ ap₂ (λ (f u : ℕ). (bytes_at (accessed m u) (p.addr + f) u, accessed m u)) from much
-
 write_one : (p : Piece) (place : ℕ) (bytes : List ℕ) (m : Memory) → place + length bytes ≤ p.len
     → over (writing (spans (p ∷ []) place (length bytes)) bytes) m ≡ (tt, after_write (accessed m (length bytes)) (p.addr + place) bytes)
-write_one p place bytes m within = by (used p place (length bytes) == 0) refl
-  where
-    from : skipped p place ≡ place
-    from = omega (arith, within)
-
-    much : used p place (length bytes) ≡ length bytes
-    much = omega (arith, within)
-
-    by : (b : Bool) → (used p place (length bytes) == 0) ≡ b
-        → over (writing (cond b [] (record { addr = p.addr + skipped p place; len = used p place (length bytes) } ∷ [])) bytes) m
-        ≡ (tt, after_write (accessed m (length bytes)) (p.addr + place) bytes)
-    by true none =
-        let empty : bytes ≡ [] = nil_from_length bytes (sym much ∙ is_zero (used p place (length bytes)) none) in
-        rw empty (ap (λ (x : Memory). (tt, x)) (sym (unwritten m (p.addr + place))))
-    by false some =
-        ap₂ (λ (f u : ℕ). (tt, after_write (accessed m (length (take u bytes))) (p.addr + f) (take u bytes))) from much
-        ∙ ap (λ (xs : List ℕ). (tt, after_write (accessed m (length xs)) (p.addr + place) xs)) (take-length bytes)
+write_one p place bytes m within = grind (arith, common_steps)
 
 module _ (p : PartsState) (w : Ends) (tied : AreTied p w) (c : Chain) (has : Contains (chains_held p.device) c) where
   abbrev d : DeviceState
@@ -61,15 +37,10 @@ module _ (p : PartsState) (w : Ends) (tied : AreTied p w) (c : Chain) (has : Con
   piece = record { addr = P; len = c.readable + c.writable }
 
   pub pieces_is : pieces_of (hold_of c d.held) ≡ piece ∷ []
-  pieces_is =
-      ap pieces_of f.hold_is
-      ∙ subst (λ (k : Chain). f.hold.pieces ≡ record { addr = start_of p k.queue + 4096 * f.hold.head; len = k.readable + k.writable }
-      ∷ []) f.chain_is
-      f.lies.pieces
+  pieces_is = grind (arith, common_steps)
 
   pub bytes_there : bytes_at m P (length f.entry.bytes) ≡ f.entry.bytes
-  bytes_there =
-      subst (λ (k : Chain). (shown_of p k.queue).page f.hold.head (length f.entry.bytes) ≡ f.entry.bytes) f.chain_is f.lies.bytes
+  bytes_there = grind (arith, common_steps)
 
   pub fits_room : c.readable + c.writable ≤ 4096
   fits_room = subst (λ (k : Chain). k.readable + k.writable ≤ 4096) f.chain_is f.lies.room
@@ -92,9 +63,7 @@ module _ (p : PartsState) (w : Ends) (tied : AreTied p w) (c : Chain) (has : Con
     quietly = quietly_accessed m count tied.still
 
     over_is : over (reading (spans (pieces_of (hold_of c d.held)) place count) []) m ≡ (bytes_at accesses (P + place) count, accesses)
-    over_is =
-        ap (λ (ps : List Piece). over (reading (spans ps place count) []) m) pieces_is
-        ∙ read_one piece place count m (omega (arith, within))
+    over_is = grind (arith, common_steps)
 
     value_is : bytes_at accesses (P + place) count ≡ take count (drop place (bytes_in c w.device.held))
     value_is =
@@ -151,9 +120,7 @@ module _ (p : PartsState) (w : Ends) (tied : AreTied p w) (c : Chain) (has : Con
     high_w = high w0.laid c.queue (PageOf f.hold.head) below (P + place) bytes (omega arith) to
 
     old_there : f.entry.bytes ≡ bytes_at before P (length f.entry.bytes)
-    old_there =
-        sym (ap₂ (λ (b : ℕ) (xs : List ℕ). take (length f.entry.bytes) (drop (P - b) xs)) quiet_before.base quiet_before.bytes
-        ∙ bytes_there)
+    old_there = grind (arith, common_steps)
 
     page_is : (shown (areas_of p c.queue) (start_of p c.queue) after).page f.hold.head (length written_bytes) ≡ written_bytes
     page_is =
@@ -161,9 +128,7 @@ module _ (p : PartsState) (w : Ends) (tied : AreTied p w) (c : Chain) (has : Con
         (omega (arith, tied.laid.high c.queue, below, f.lies.fits, quiet_before.base, ap length quiet_before.bytes)) high_w
 
     long : length written_bytes ≡ place + length bytes + (length f.entry.bytes - (place + length bytes))
-    long =
-        let b : List ℕ = f.entry.bytes in length-append (take place b ++ bytes) (drop (place + length bytes) b)
-        ∙ omega (arith, length-append (take place b) bytes, length-take-le place b gap, length-drop (place + length bytes) b)
+    long = grind (arith, common_steps)
 
     held_then : AreHeldAs (start_of p) (λ r. shown (areas_of p r) (start_of p r) after) d.held (with_bytes c written_bytes w.device.held)
     held_then =

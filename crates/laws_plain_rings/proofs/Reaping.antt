@@ -1,9 +1,10 @@
 -- A page is reaped, or none.
+use Rattle.std.proofs.lemmas.Grind.{common_steps}
 use Rattle.std.proofs.Common.{◌≡◌, ℕ, ◌+◌, ◌*◌, ◌%◌, ◌^◌, ◌<◌, Bool, true, false, cond, List, [], ◌∷◌, ◌++◌, length, Option, None, Some, refl, sym, ap, ◌∙◌, subst, arith}
 use Rattle.std.{proofs.lemmas.Bool.Decides.nat_tests, specs.Prelude.{◌-◌, ◌≤◌, ◌==◌, ◌||◌, min, nat_le, nat_lt, set, slice_index_or}}
 use Rattle.vs_guest_mem.specs.Memory.{Memory, bytes_at}
 use Rattle.vs_layout.specs.{Entry.used_elem_of, Layout.used_elem, declared.entry.UsedElem.UsedElem}
-use Rattle.vs_ring_port.specs.{Lists.{Lists, all_but_oldest, next_back, oldest, queue_of, with_queue}, declared.queue.Queue.{TheVariants.{Rx, Tx, Event}, Queue}, DriverCalls.Reap}
+use Rattle.vs_ring_port.specs.{Lists.{Lists, all_but_oldest, next_back, oldest, queue_of}, declared.queue.Queue.{Queue}, DriverCalls.Reap}
 use Rattle.vs_ring_port.specs.EndLog.{entries_reaped, pages_at}
 use Rattle.vs_ring_list.{specs.Ends.Ends, proofs.Ties.tied-reap}
 use Rattle.vs_ring_plain.specs.{Chain.ahead, Device.turns_at}
@@ -53,16 +54,8 @@ module _ (p : PartsState) (w : Ends) (tied : AreTied p w) (queue : Queue) where
         same : (r : Queue) → with_driver r (driver_at r p) p ≡ p
         same queue = search arith
 
-    abbrev with_back : Queue → List (List ℕ) → Ends
-    with_back r back = record w { lists = with_queue r (record (queue_of r w.lists) { back = back }) w.lists }
-
     none_ends : after_driver (Reap queue) w ≡ w
-    none_ends = same queue none
-      where
-        same : (r : Queue) → (queue_of r w.lists).back ≡ [] → after_driver (Reap r) w ≡ w
-        same Rx e = subst (λ (b : List (List ℕ)). after_driver (Reap Rx) (with_back Rx b) ≡ with_back Rx b) (sym e) refl
-        same Tx e = subst (λ (b : List (List ℕ)). after_driver (Reap Tx) (with_back Tx b) ≡ with_back Tx b) (sym e) refl
-        same Event e = subst (λ (b : List (List ℕ)). after_driver (Reap Event) (with_back Event b) ≡ with_back Event b) (sym e) refl
+    none_ends = grind (arith, common_steps)
 
   -- the page that was returned first
   module _ (page : List ℕ) (pages : List (List ℕ)) (back_is : l.back ≡ page ∷ pages) (id : ℕ) (ids out : List ℕ)

@@ -1,9 +1,9 @@
 -- The pieces of a queue's memory that are written as a whole, and what a write into one of them leaves alone.
-use Rattle.std.{proofs.{Common.{◌≡◌, ◌⊎◌, ℕ, ◌+◌, ◌*◌, ◌<◌, ◌≤◌, false, List, [], ◌∷◌, ◌++◌, length, refl, ap, ap₂, ◌∙◌, arith}, lemmas.Grind.common_steps}, specs.Prelude.⊤}
+use Rattle.std.{proofs.{Common.{◌≡◌, ◌⊎◌, ℕ, ◌+◌, ◌*◌, ◌<◌, ◌≤◌, false, List, [], ◌∷◌, ◌++◌, length, refl, ap, ◌∙◌, arith}, lemmas.Grind.common_steps}, specs.Prelude.⊤}
 use Rattle.byteorder.specs.Endian.{little_number}
 use Rattle.vs_guest_mem.specs.Memory.{Memory, after_access, after_write, bytes_at}
 use Rattle.vs_layout.specs.{Entry.{desc_of, used_elem_of}, declared.place.Areas.Areas}
-use Rattle.vs_ring_plain.proofs.Still.{quiet, still_after, still_bytes}
+use Rattle.vs_ring_plain.proofs.Still.{still_after, still_bytes}
 use Rattle.vs_ring_port.specs.{Chains.same_queue, declared.queue.Queue.Queue}
 use Rattle.laws_plain_rings.{specs.{Tie.{IsAreaLaid, IsLaid}, Shown.{AvailEvent, AvailFlags, Shown, UsedEvent, UsedFlags, Word, shown, word_in}}, proofs.Frames.kept}
 use Rattle.laws_plain_rings.proofs.Frames.{length_written, written}
@@ -108,29 +108,14 @@ untouched_then n xs ys s middle new one more = record {
   word = λ w other. let o = differs_both xs ys (WordOf n w) other in more.word w o.1 ∙ one.word w o.0;
 }
 
-untouched_same : (n : ℕ) (xs : List Spot) (s new : Shown) → new ≡ s → Untouched n xs s new
-untouched_same n xs s new same = rw same (search arith)
-
 -- the same bytes are seen in the same way
 pub seen_same : (a : Areas) (at : ℕ) (m new : Memory) → new.base ≡ m.base → new.bytes ≡ m.bytes → shown a at new ≡ shown a at m
-seen_same a at m new base bytes =
-    ap₂ (λ (b : ℕ) (xs : List ℕ). shown a at (quiet b xs 0)) base bytes
+seen_same a at m new base bytes = grind (arith, common_steps)
 
 -- where the areas and pages begin where they began, they lie as they lay
 pub laid_same : (n : ℕ) (areas : Queue → Areas) (from to : Queue → ℕ) (m new : Memory) → ((q : Queue) → to q ≡ from q)
     → new.base ≡ m.base → length new.bytes ≡ length m.bytes → IsLaid n areas from m → IsLaid n areas to new
-laid_same n areas from to m new same base size laid = record {
-  nonzero = laid.nonzero;
-  limit = laid.limit;
-  divides = laid.divides;
-  fits = omega (arith, base, size, laid.fits);
-  each = laid.each;
-  low = λ q. omega (arith, base, laid.low q);
-  behind = λ q r. omega (arith, laid.behind q r, same r);
-  high = λ q. omega (arith, base, size, laid.high q, same q);
-  areas_apart = laid.areas_apart;
-  pages_apart = λ q r other. rw (same q, same r) (laid.pages_apart q r other);
-}
+laid_same n areas from to m new same base size laid = grind (arith, common_steps)
 
 -- A memory to which no change is to come, in which of one queue these spots alone were written.
 pub record Wrote (n : ℕ) (areas : Queue → Areas) (at : Queue → ℕ) (q : Queue) (xs : List Spot) (m new : Memory) : Type 0 where
@@ -162,15 +147,7 @@ quietly_after m new q = record { still = still_after new q.still; base = q.base;
 
 pub quietly_wrote : {n : ℕ} {areas : Queue → Areas} {at : Queue → ℕ} {m new : Memory} → IsLaid n areas at m → (q : Queue) (xs : List Spot)
     → IsQuietly m new → Wrote n areas at q xs m new
-quietly_wrote {n} {areas} {at} {m} {new} laid q xs quietly = record {
-  still = quietly.still;
-  laid = laid_same n areas at at m new (λ q. refl) quietly.base (ap length quietly.bytes) laid;
-  own = same q xs;
-  other = λ r apart. same r [];
-}
-  where
-    same : (r : Queue) (xs : List Spot) → Untouched n xs (shown (areas r) (at r) m) (shown (areas r) (at r) new)
-    same r xs = untouched_same n xs _ _ (seen_same (areas r) (at r) m new quietly.base quietly.bytes)
+quietly_wrote {n} {areas} {at} {m} {new} laid q xs quietly = grind (arith, common_steps)
 
 -- a write of bytes into a spot of one queue
 module _ {n : ℕ} {areas : Queue → Areas} {at : Queue → ℕ} {m : Memory} (laid : IsLaid n areas at m) where
@@ -188,12 +165,7 @@ module _ {n : ℕ} {areas : Queue → Areas} {at : Queue → ℕ} {m : Memory} (
   across : (q r : Queue) → same_queue q r ≡ false → (x y : Spot) → IsSpot n x → IsSpot n y
       → (spot_at (areas q) (at q) x + spot_len x ≤ spot_at (areas r) (at r) y) ⊎ (spot_at (areas r) (at r) y + spot_len y ≤ spot_at
       (areas q) (at q) x)
-  across q r other x y is_x is_y =
-      let inside = within n (areas q) (at q) (laid.each q) (laid.behind q q) x is_x in
-      let beside = within n (areas r) (at r) (laid.each r) (laid.behind r r) y is_y in
-      let areas_apart = laid.areas_apart q r other in
-      let pages_apart = laid.pages_apart q r other in
-      grind (arith, common_steps, laid.behind q r, laid.behind r q)
+  across q r other x y is_x is_y = grind (arith, common_steps)
 
   module _ (q : Queue) (x : Spot) (is_x : IsSpot n x) (addr : ℕ) (bytes : List ℕ) (from : spot_at (areas q) (at q) x ≤ addr)
       (to : addr + length bytes ≤ spot_at (areas q) (at q) x + spot_len x) where

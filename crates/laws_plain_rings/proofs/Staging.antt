@@ -1,16 +1,17 @@
 -- A page is staged: what is written, and both ends after it.
-use Rattle.std.proofs.{Common.{◌≡◌, ℕ, ◌+◌, ◌*◌, ◌%◌, ◌<◌, ◌≤◌, List, [], ◌∷◌, ◌++◌, length, Option, Some, refl, sym, ap, ap₂, ◌∙◌, subst, arith, ◌^◌}, lemmas.Nat.mod_below}
-use Rattle.std.specs.Prelude.{drop, set, slice_index_or}
+use Rattle.std.proofs.lemmas.Grind.{common_steps}
+use Rattle.std.proofs.{Common.{◌≡◌, ℕ, ◌+◌, ◌*◌, ◌%◌, ◌<◌, ◌≤◌, List, [], ◌∷◌, ◌++◌, length, Option, Some, refl, sym, ap, ap₂, ◌∙◌, subst, arith}, lemmas.Nat.mod_below}
+use Rattle.std.specs.Prelude.{set, slice_index_or}
 use Rattle.byteorder.specs.Endian.{little_bytes, little_number}
 use Rattle.vs_guest_mem.specs.Memory.{Memory, after_write}
 use Rattle.vs_header.proofs.RoundTrip.{little_number-little_bytes}
 use Rattle.vs_layout.specs.{Entry.{desc_bytes, desc_of}, Layout.{avail_entry, desc_entry}, declared.{entry.Desc.Desc, place.Areas.Areas}}
-use Rattle.vs_ring_port.specs.{DriverCalls.{HoldsPacket, Stage}, EndLog.pages_at, Lists.{Rings, queue_of, with_queue}, declared.queue.Queue.{Queue, TheVariants.{Rx, Tx, Event}}}
+use Rattle.vs_ring_port.specs.{DriverCalls.{HoldsPacket, Stage}, EndLog.pages_at, Lists.{Rings, queue_of, with_queue}, declared.queue.Queue.{Queue, TheVariants.{Tx}}}
 use Rattle.vs_ring_list.specs.{Ends.Ends, Sound.IsTied}
 use Rattle.vs_ring_plain.specs.Device.{turns_at}
 use Rattle.vs_plain_driver.specs.Queue.{DriverQueueState, desc_for, page_at, staged_memory, staged_queue, with_page}
 use Rattle.laws_plain_rings.specs.{Calls.after_driver, Shown.shown, Parts.{PartsState, driver_at, staged_parts, with_driver, with_parts_memory}, Tie.{AreTied, IsLaid, areas_of}}
-use Rattle.laws_plain_rings.{specs.Tie.start_of, proofs.{Assemble.{driver_form_is, ends_form, step, held_after, parts_form}, Encoded.desc_back, QueueSteps.{id_below, not_id}}}
+use Rattle.laws_plain_rings.{specs.Tie.start_of, proofs.{Assemble.{driver_form_is, ends_form, step, held_after, parts_form}, QueueSteps.{id_below, not_id}}}
 use Rattle.laws_plain_rings.proofs.{QueueSteps.tie_staged, Spots.{Describing, Entry, PageOf, Wrote, wrote, wrote_then, read_back}}
 
 -- the bytes, the descriptor and the entry are written
@@ -59,13 +60,8 @@ module _ (n : ℕ) (areas : Queue → Areas) (at : Queue → ℕ) (m : Memory) (
       w3.own.page id (length page) below fits (tt, tt) ∙ w2.own.page id (length page) below fits (tt, tt)
       ∙ read_back laid queue (PageOf id) below P page (omega arith) (omega (arith, fits))
 
-  below_top : P < 2 ^ 64
-  below_top = omega (arith, laid.high queue, below, laid.fits)
-
   d_back : (q : Queue) → desc_of (desc_bytes (desc_for q P (length page))) ≡ desc_for q P (length page)
-  d_back Rx = desc_back (desc_for Rx P (length page)) below_top (omega arith) (omega arith) (omega arith)
-  d_back Tx = desc_back (desc_for Tx P (length page)) below_top (omega (arith, fits)) (omega arith) (omega arith)
-  d_back Event = desc_back (desc_for Event P (length page)) below_top (omega arith) (omega arith) (omega arith)
+  d_back q = grind (arith, common_steps)
 
   pub desc_is : (shown (areas queue) (at queue) m3).desc id ≡ desc_for queue P (length page)
   desc_is =
@@ -98,8 +94,7 @@ module _ (p : PartsState) (w : Ends) (tied : AreTied p w) (queue : Queue) (page 
   after = m3 n (areas_of p) (start_of p) p.device.memory tied.laid tied.still queue id place below near page fits
 
   queue_is : staged_queue page q ≡ then
-  queue_is =
-      ap (λ (f : List ℕ). record q { pages = set q.pages (slice_index_or f 0 0) (Some page); free = drop 1 f; staged = q.staged + 1 }) free
+  queue_is = grind (arith, common_steps)
 
   abbrev memory_of : List ℕ → Option ℕ → ℕ → Memory
   memory_of f o k =

@@ -1,7 +1,7 @@
 -- Both ends before the first call.
-use Rattle.std.proofs.Common.{◌⊎◌, ◌≡◌, ℕ, zero, suc, ◌+◌, ◌-◌, ◌*◌, ◌%◌, ◌^◌, ◌<◌, ◌≤◌, Bool, true, false, cond, List, [], ◌∷◌, length, Option, None, Some, refl, sym, ap, ◌∙◌}
+use Rattle.std.proofs.Common.{◌≡◌, ℕ, zero, suc, ◌+◌, ◌*◌, ◌%◌, ◌^◌, ◌<◌, ◌≤◌, Bool, true, false, cond, List, [], ◌∷◌, length, Option, None, Some, refl, sym, ap, ◌∙◌}
 use Rattle.std.proofs.{Common.{subst, arith}, lemmas.{Bool.Decides.nat_tests, List.{length-replicate, nil_from_length, FromFn.length-range_with_len}, Grind.common_steps}}
-use Rattle.std.specs.{List.range_with_len, Prelude.{◌==◌, ◌&&◌, is_some, nat_le}}
+use Rattle.std.specs.{List.range_with_len, Prelude.{◌==◌, ◌&&◌, is_some}}
 use Rattle.byteorder.specs.Endian.{little_number}
 use Rattle.vs_guest_mem.specs.Memory.{Memory, after_write, bytes_at}
 use Rattle.vs_layout.specs.{Layout.queue_areas_of, declared.{place.Areas.Areas, placement.QueueAreas.QueueAreas}}
@@ -11,7 +11,7 @@ use Rattle.vs_ring_list.specs.Ends.{empty_ends}
 use Rattle.vs_ring_plain.specs.Device.{areas_at, cleared_used, new_device}
 use Rattle.vs_plain_driver.specs.Queue.{cleared_avail}
 use Rattle.laws_plain_rings.specs.{Parts.{PartsState, driver_at, new_parts, new_queue, pages_start, cleared}, Queue.{IsQueueTied, times}, Shown.{AvailEvent, AvailFlags, Shown}}
-use Rattle.laws_plain_rings.specs.{Shown.{UsedEvent, UsedFlags, Word, shown}, Tie.{AreTied, IsAreaLaid, IsLaid, IsTiedAt, IsTiedTo, start_of}, Exposed.first_ends}
+use Rattle.laws_plain_rings.specs.{Shown.{UsedEvent, UsedFlags, Word, shown}, Tie.{AreTied, IsLaid, IsTiedAt, IsTiedTo, start_of}, Exposed.first_ends}
 use Rattle.laws_plain_rings.proofs.{Modulo.mod_small, Spots.{AvailIdx, Differs, DiffersAll, IsSpot, Spot, Untouched, UsedIdx, WordOf, laid_same, own, spot_at, spot_len, Wrote}}
 use Rattle.laws_plain_rings.proofs.{Spots.{wrote, wrote_then, read_back}, Queues.of_each}
 
@@ -87,11 +87,7 @@ IsUsedClear n s = IsClear n s UsedFlags AvailEvent s.used
 
 stays : {n : ℕ} {xs : List Spot} {s new : Shown} (v w : Word) {old index : ℕ} → Untouched n xs s new → DiffersAll xs (WordOf n v)
     → index ≡ old → DiffersAll xs (WordOf n w) → IsClear n s v w old → IsClear n new v w index
-stays v w u flags same event clear = record {
-  flags = u.word v flags ∙ clear.flags;
-  index_is = same ∙ clear.index_is;
-  event = u.word w event ∙ clear.event;
-}
+stays v w u flags same event clear = grind (arith, common_steps)
 
 all_words : (n : ℕ) (s : Shown) → IsAvailClear n s → IsUsedClear n s → (w : Word) → s.word n w ≡ 0
 all_words n s avail used w = grind (arith, common_steps, avail.flags, avail.event, used.flags, used.event)
@@ -167,20 +163,6 @@ empty_tie queue n at s nonzero avail used = record {
 }
 
 -- where the pages begin
-abbrev rounded : ℕ → ℕ
-rounded end = end + (4096 - end % 4096) % 4096
-
-there_if : (m : Memory) (end n at : ℕ) (b : Bool) → nat_le (rounded end + 3 * (4096 * n)) (m.base + length m.bytes) ≡ b
-    → cond b (Some (rounded end)) None ≡ Some at → (end ≤ at) × (at + 3 * (4096 * n) ≤ m.base + length m.bytes)
-there_if m end n at false test is = absurd cc
-there_if m end n at true test is =
-    let same : rounded end ≡ at = cc in
-    let fits : rounded end + 3 * (4096 * n) ≤ m.base + length m.bytes = grind (arith, nat_tests, test) in
-    (omega (arith, same), omega (arith, same, fits))
-
-pages_there : (m : Memory) (end n at : ℕ) → pages_start m end n ≡ Some at → (end ≤ at) × (at + 3 * (4096 * n) ≤ m.base + length m.bytes)
-pages_there m end n at is = there_if m end n at (nat_le (rounded end + 3 * (4096 * n)) (m.base + length m.bytes)) refl is
-
 -- the three queues one after another, and their pages behind them
 module _ (m : Memory) (base n at : ℕ) (indirect : Bool) (nonzero : 0 < n) (limit : n ≤ 32768) (divides : 2 ^ 16 % n
     ≡ 0) (still : m.changes ≡ [])
@@ -197,49 +179,8 @@ module _ (m : Memory) (base n at : ℕ) (indirect : Bool) (nonzero : 0 < n) (lim
   start Tx = at + 4096 * n
   start Event = at + 2 * (4096 * n)
 
-  behind_all : all.event.end ≤ at
-  behind_all = (pages_there m all.event.end n at pages).0
-
-  below_top : at + 3 * (4096 * n) ≤ m.base + length m.bytes
-  below_top = (pages_there m all.event.end n at pages).1
-
-  each_laid : (q : Queue) → IsAreaLaid n (areas q)
-  each_laid q = grind (arith, common_steps)
-
   laid : IsLaid n areas start m
-  laid = record {
-    nonzero = nonzero;
-    limit = limit;
-    divides = divides;
-    fits = fits;
-    each = each_laid;
-    low = low_each;
-    behind = behind;
-    high = high_each;
-    areas_apart = apart_areas;
-    pages_apart = apart_pages;
-  }
-    where
-      low_each : (q : Queue) → m.base ≤ (areas q).desc
-      low_each q = grind (arith, common_steps)
-
-      ends : (q : Queue) → (areas q).end ≤ at
-      ends q = grind (arith, common_steps, behind_all)
-
-      starts : (q : Queue) → at ≤ start q
-      starts q = grind (arith, common_steps)
-
-      behind : (q r : Queue) → (areas q).end ≤ start r
-      behind q r = omega (arith, ends q, starts r)
-
-      high_each : (q : Queue) → start q + 4096 * n ≤ m.base + length m.bytes
-      high_each q = grind (arith, common_steps, below_top)
-
-      apart_areas : (q r : Queue) → same_queue q r ≡ false → ((areas q).end ≤ (areas r).desc) ⊎ ((areas r).end ≤ (areas q).desc)
-      apart_areas q r other = grind (arith, common_steps)
-
-      apart_pages : (q r : Queue) → same_queue q r ≡ false → (start q + 4096 * n ≤ start r) ⊎ (start r + 4096 * n ≤ start q)
-      apart_pages q r other = grind (arith, common_steps)
+  laid = grind (arith, common_steps)
 
   abbrev after_all : Memory
   after_all = cleared all n m

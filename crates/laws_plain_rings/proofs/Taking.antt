@@ -3,7 +3,7 @@ use Rattle.std.proofs.Common.{◌≡◌, ℕ, ◌+◌, ◌*◌, ◌%◌, ◌^◌
 use Rattle.std.{proofs.lemmas.{Bool.Decides.nat_tests, Grind.common_steps}, specs.Prelude.{nat_le, nat_lt}}
 use Rattle.vs_guest_mem.specs.Memory.{Memory, after_access, is_within}
 use Rattle.vs_layout.specs.declared.entry.Desc.{Desc}
-use Rattle.vs_ring_port.specs.{EndLog.{entries_taken, pages_at}, Lists.{Lists, chain_with, next_at, next_given, queue_of, to_read, with_queue}, declared.queue.Queue.TheVariants.Rx}
+use Rattle.vs_ring_port.specs.{EndLog.{entries_taken, pages_at}, Lists.{Lists, chain_with, next_at, next_given, queue_of, to_read}, declared.queue.Queue.TheVariants.Rx}
 use Rattle.vs_ring_port.specs.{declared.{queue.Queue.{TheVariants.{Tx, Event}, Queue}, device_ring.{Chain.Chain, Next.Next}}, Chains.{Held, same_queue}, Contents.Take}
 use Rattle.vs_ring_port.specs.{DeviceCalls.IsTakenWhole, DriverCalls.HoldsPacket}
 use Rattle.vs_ring_list.{specs.Ends.Ends, proofs.Ties.tied-take}
@@ -27,9 +27,7 @@ rules q id at len = search arith
 
 long : (q : Queue) (at : ℕ) (page : List ℕ) → (q ≡ Tx → 44 ≤ length page) → (too_small q (total_len (piece_of (desc_for q at (length
     page)) ∷ []))).0 ≡ false
-long Rx at page header = refl
-long Tx at page header = grind (arith, nat_tests, header refl)
-long Event at page header = refl
+long q at page header = grind (arith, common_steps)
 
 inside : (q : Queue) (base size at len : ℕ) → base ≤ at → at + 4096 ≤ base + size → len ≤ 4096
     → let d = desc_for q at len in is_within base size d.addr d.len ≡ true
@@ -38,16 +36,11 @@ inside q base size at len from to few = grind (arith, nat_tests, common_steps)
 -- the chain of a page, and its one piece
 chain_is : (q : Queue) (place at : ℕ) (page : List ℕ) → chain_at q place (piece_of (desc_for q at (length page)) ∷ [])
     ≡ chain_with q place page
-chain_is Rx place at page = refl
-chain_is Tx place at page =
-    ap (λ (k : ℕ). let c : Chain = record { queue = Tx; place = place; readable = k; writable = 0 } in c) (omega arith)
-chain_is Event place at page = refl
+chain_is q place at page = grind (arith, common_steps)
 
 piece_is : (q : Queue) (place at : ℕ) (page : List ℕ) → let c = chain_at q place (piece_of (desc_for q at (length page)) ∷ []) in
     piece_of (desc_for q at (length page)) ≡ record { addr = at; len = c.readable + c.writable }
-piece_is Rx place at page = refl
-piece_is Tx place at page = ap (λ (k : ℕ). let x : Piece = record { addr = at; len = k } in x) (omega arith)
-piece_is Event place at page = refl
+piece_is q place at page = grind (arith, common_steps)
 
 fits_chain : (q : Queue) (place at : ℕ) (page : List ℕ) → length page ≤ 4096
     → let c = chain_at q place (piece_of (desc_for q at (length page)) ∷ []) in
@@ -95,16 +88,8 @@ module _ (p : PartsState) (w : Ends) (tied : AreTied p w) (queue : Queue) where
 
   -- none was given
   module _ (none : l.given ≡ []) where
-    abbrev with_given : Queue → List (List ℕ) → Ends
-    with_given r given = record w { lists = with_queue r (record (queue_of r w.lists) { given = given }) w.lists }
-
     none_ends : after_device (Take queue) w ≡ w
-    none_ends = same queue none
-      where
-        same : (r : Queue) → (queue_of r w.lists).given ≡ [] → after_device (Take r) w ≡ w
-        same Rx e = subst (λ (b : List (List ℕ)). after_device (Take Rx) (with_given Rx b) ≡ with_given Rx b) (sym e) refl
-        same Tx e = subst (λ (b : List (List ℕ)). after_device (Take Tx) (with_given Tx b) ≡ with_given Tx b) (sym e) refl
-        same Event e = subst (λ (b : List (List ℕ)). after_device (Take Event) (with_given Event b) ≡ with_given Event b) (sym e) refl
+    none_ends = grind (arith, common_steps)
 
     none_next : next_at queue l.place (next_given queue w.lists) ≡ next.None
     none_next = rw none refl

@@ -1,13 +1,14 @@
 -- Each call keeps the ends tied, where they are known; and it is one that the ports allow.
-use Rattle.std.proofs.{Common.{◌≡◌, ℕ, ◌+◌, ◌<◌, ◌≤◌, List, [], ◌∷◌, length, Option, None, Some, Contains, refl, sym, ap, ◌∙◌, subst, arith}, lemmas.Bool.false≢true}
-use Rattle.std.specs.{Option.ForSome, Prelude.option_map}
-use Rattle.vs_page.specs.{Fair.IsFairLog, Log.{Device, Driver, Role}}
+use Rattle.std.proofs.lemmas.Grind.{common_steps}
+use Rattle.std.proofs.{Common.{◌≡◌, ℕ, ◌+◌, ◌<◌, ◌≤◌, List, [], ◌∷◌, length, Option, None, Some, Contains, refl, sym, ap, ◌∙◌, subst, arith}}
+use Rattle.std.specs.{Prelude.option_map}
+use Rattle.vs_page.specs.{Fair.IsFairLog, Log.{Device, Driver}}
 use Rattle.vs_ring_port.specs.{DriverCalls.{CanPublish, CanStage, DriverAllows, DriverAnswer, DriverCall, DriverMoves, LoadCid, Publish, Reap, Stage}, Contents.DeviceAnswer}
 use Rattle.vs_ring_port.specs.{Contents.{DeviceCall, Given, PublishCid, Read, Return, Take, Write}, DeviceCalls.{CanReturn, DeviceAllows, DeviceMoves, IsTakenAs, IsWholePacket}}
 use Rattle.vs_ring_port.specs.{DeviceCalls.LeavesNoGap, EndLog.{EndLog, entries_published, entries_returned, pages_at}, Lists.{Rings, next_at, next_back, next_given, queue_of}}
 use Rattle.vs_ring_port.specs.{declared.{queue.Queue.{TheVariants.{Rx, Tx, Event}, Queue}, device_ring.{Chain.Chain, Next.Next}}, Chains.{bytes_in, held_of}}
-use Rattle.vs_ring_list.{specs.Ends.Ends, proofs.Ties.fair-return_event}
-use Rattle.vs_ring_plain.specs.Device.{DeviceState, answer_to, chains_held, plain_state}
+use Rattle.vs_ring_list.{specs.Ends.Ends}
+use Rattle.vs_ring_plain.specs.Device.{DeviceState, answer_to, chains_held}
 use Rattle.vs_plain_driver.specs.Queue.{flight_in, reaped_page}
 use Rattle.laws_plain_rings.specs.{Parts.{PartsState, driver_at, published_parts, reaped_parts, staged_parts, used_in}, Tie.{AreTied, IsTiedTo, areas_of}, Calls.after_device}
 use Rattle.laws_plain_rings.{specs.{Calls.after_driver, Exposed.{device_told, driver_told}}, proofs.{Publishing.{tied_loaded, tied_published}, Reaping.reaps, Reading.reads}}
@@ -16,52 +17,22 @@ use Rattle.laws_plain_rings.proofs.{Reading.tied_written, Resetting.tied_reset, 
 abbrev pub drives : (ends : Option Ends) → (Ends → Ends) → Option Ends
 drives ends f = option_map f ends
 
-for_log : (role : Role) (log : EndLog) → IsFairLog role log.entries → ForSome (Some log) (λ l. IsFairLog role l.entries)
-for_log role log fair l e = let same : log ≡ l = cc in subst (λ (k : EndLog). IsFairLog role k.entries) same fair
-
 -- where nothing is known, a call of the driver is allowed
 quiet : (call : DriverCall) (answer : DriverAnswer call) (P : Rings → Type 0) (f : Rings → Rings) (Q : EndLog → Type 0)
     (g : EndLog → EndLog) → DriverMoves call answer P f Q g (driver_told None) (driver_told None)
-quiet call answer P f Q g = record {
-  lists = refl;
-  log = refl;
-  other = refl;
-  plain = refl;
-  known = refl;
-  honest = refl;
-  fair = λ honest. absurd (false≢true honest);
-}
+quiet call answer P f Q g = grind (arith, common_steps)
 
 -- a call of the driver whose answer the lists give
 driver_moves : (call : DriverCall) (answer : DriverAnswer call) (P : Rings → Type 0) (f : Rings → Rings) (Q : EndLog → Type 0)
     (g : EndLog → EndLog) (w : Ends) → P w.lists → Q w.driver → IsFairLog Driver (g w.driver).entries
     → DriverMoves call answer P f Q g (driver_told (Some w)) (driver_told (Some (record w { lists = f w.lists; driver = g w.driver })))
-driver_moves call answer P f Q g w p q fair = record {
-  lists = (p, refl);
-  log = (q, refl);
-  other = refl;
-  plain = refl;
-  known = refl;
-  honest = refl;
-  fair = λ _. for_log Driver (g w.driver) fair;
-}
+driver_moves call answer P f Q g w p q fair = grind (arith, common_steps)
 
 -- the same of the device
 device_quiet : (call : DeviceCall) (answer : DeviceAnswer call) (P : Rings → Type 0) (f : Rings → Rings) (Q : EndLog → Type 0)
     (g : EndLog → EndLog) (d new : DeviceState) → answer_to call d ≡ (answer, new)
     → DeviceMoves call answer P f Q g (device_told d None) (device_told new None)
-device_quiet call answer P f Q g d new is = record {
-  lists = refl;
-  log = refl;
-  other = refl;
-  plain = (
-    sym (ap (λ (r : DeviceAnswer call × DeviceState). r.0) is),
-    ap (λ (r : DeviceAnswer call × DeviceState). Some (plain_state r.1)) (sym is),
-  );
-  known = refl;
-  honest = refl;
-  fair = λ honest. absurd (false≢true honest);
-}
+device_quiet call answer P f Q g d new is = grind (arith, common_steps)
 
 device_moves : (call : DeviceCall) (answer : DeviceAnswer call) (P : Rings → Type 0) (f : Rings → Rings) (Q : EndLog → Type 0)
     (g : EndLog → EndLog) (d new : DeviceState) (w : Ends) → answer_to call d ≡ (answer, new) → P w.lists → Q w.device
@@ -71,22 +42,10 @@ device_moves : (call : DeviceCall) (answer : DeviceAnswer call) (P : Rings → T
       device = g
           w.device;
     })))
-device_moves call answer P f Q g d new w is p q fair = record {
-  lists = (p, refl);
-  log = (q, refl);
-  other = refl;
-  plain = (
-    sym (ap (λ (r : DeviceAnswer call × DeviceState). r.0) is),
-    ap (λ (r : DeviceAnswer call × DeviceState). Some (plain_state r.1)) (sym is),
-  );
-  known = refl;
-  honest = refl;
-  fair = λ _. for_log Device (g w.device) fair;
-}
+device_moves call answer P f Q g d new w is p q fair = grind (arith, common_steps)
 
 taken_as : (queue : Queue) (place : ℕ) (page : Option (List ℕ)) → IsTakenAs queue (next_at queue place page) page
-taken_as queue place None = refl
-taken_as queue place (Some page) = (refl, refl)
+taken_as queue place page = grind (arith, common_steps)
 
 module _ (p : PartsState) where
   -- a page is staged
@@ -203,16 +162,12 @@ module _ (p : PartsState) where
       → answer_to (Write c place bytes) p.device ≡ (tt, new)
       → DeviceAllows (Write c place bytes) tt (device_told p.device ends) (device_told new (drives ends (after_device (Write c place
       bytes))))
-  allows_written c place bytes new None tied is = device_quiet (Write c place bytes) tt _ _ _ _ p.device new is
-  allows_written c place bytes new (Some w) tied is =
-      device_moves (Write c place bytes) tt (λ x. Unit {0}) (λ x. x) (λ l. Unit {0}) _ p.device new w is tt tt tied.logs.device_fair
+  allows_written c place bytes new ends tied is = grind (arith, common_steps)
 
   -- a chain is returned
   whole_then : (queue : Queue) (page : List ℕ) (w : Ends) → AreTied p w → IsWholePacket queue page w.device
       → IsFairLog Device (entries_returned queue page w.device.entries)
-  whole_then Rx page w tied whole = whole.1
-  whole_then Tx page w tied whole = tied.logs.device_fair
-  whole_then Event page w tied whole = fair-return_event w.lists w.driver.entries w.device.entries tied.logs page
+  whole_then queue page w tied whole = grind (arith, common_steps)
 
   pub told_returned : (c : Chain) (len : ℕ) (new : DeviceState) (ends : Option Ends) → IsTiedTo p ends
       → answer_to (Return c len) p.device ≡ (tt, new) → Contains (chains_held p.device) c → CanReturn c len (device_told p.device ends)
@@ -257,7 +212,4 @@ module _ (p : PartsState) where
 
   pub allows_reset : (cid : ℕ) (ends : Option Ends) → IsTiedTo p ends
       → DeviceAllows (PublishCid cid) tt (device_told p.device ends) (device_told p.device (drives ends (after_device (PublishCid cid))))
-  allows_reset cid None tied = device_quiet (PublishCid cid) tt _ _ _ _ p.device p.device refl
-  allows_reset cid (Some w) tied =
-      device_moves (PublishCid cid) tt (λ x. Unit {0}) _ (λ l. Unit {0}) _ p.device p.device w refl tt tt (tied_reset p w tied
-      cid).logs.device_fair
+  allows_reset cid ends tied = grind (arith, common_steps)
