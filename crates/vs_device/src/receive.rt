@@ -4,7 +4,7 @@
 ghost use Rattle.std.specs.Prelude.{◌≡◌, ◌≤◌, ◌<◌, ◌+◌, ◌*◌, ◌^◌, ℕ, List, not, length, false, true, Some, None, is_some, IfSome, IsSomeAnd, Err, IfErr, IfOk, OnOk};
 ghost use Rattle.std.specs.Option.{ForSome};
 ghost use Rattle.vs_conn.specs.{End.{CanSend, owes_of}, Headers.reset_header};
-ghost use Rattle.vs_contents.specs.CallTree.{while_up_to};
+ghost use Rattle.vs_contents.specs.CallTree.{for_each, while_up_to};
 ghost use Rattle.vs_credit.specs.Credit.{free_of};
 ghost use Rattle.vs_flow.specs.Table.{entry_under, value_under};
 ghost use Rattle.vs_header.specs.declared.TheConstants.{HEADER_LEN};
@@ -27,7 +27,7 @@ use vs_conn::Owed;
 use vs_device_parts::answers::Filled;
 use vs_device_parts::fill::Fill;
 use vs_device_parts::packets::{read_into, write_packet};
-use vs_device_parts::round::{first_from, round_from};
+use vs_device_parts::round::first_from;
 use vs_device_parts::service::Service;
 use vs_flow::Slot;
 use vs_header::{HEADER_LEN, Header, Kind, Op};
@@ -125,17 +125,39 @@ impl Device {
         ensures calls { Runs (serve_all (filling_of self.old fill.old)) (situation (R.contents ring.old) (H.contents host.old) (H.faults host.old)) (filling_of self.new fill.new) (situation (R.contents ring.new) (H.contents host.new) (H.faults host.new)) }
     {
         let slots = self.slots.all();
-        let round = round_from(self.last_put, slots.as_slice());
-        let mut place = first_from(self.last_put, slots.as_slice());
+        let first = first_from(self.last_put, slots.as_slice());
+        let (others, above) = slots.as_slice().split_at(first);
         let mut buffer = [0; PAYLOAD_MAX];
-        for slot in round.as_slice() {
-            if place >= round.len() {
-                place = 0;
-            }
-            self.serve_slot(ring, host, *slot, place, &mut buffer, fill);
+        self.serve_part(ring, host, above, first, &mut buffer, fill);
+        self.serve_part(ring, host, others, 0, &mut buffer, fill);
+        self.watch_owed();
+    }
+
+    // Serves the connections in some slots, one after the other. The first of them stands at a place of the table, if none went before.
+    #[inline(always)]
+    fn serve_part<R: DeviceRing, H: HostNet>(
+        &mut self,
+        ring: &mut R,
+        host: &mut H,
+        slots: &[Slot],
+        first: usize,
+        buffer: &mut [u8; PAYLOAD_MAX],
+        fill: &mut Fill,
+    )
+        requires ring { IsRingOf (R.held ring.old) self.old }
+        requires few { fill.old.put + (OWED_MAX + 1) * length slots.now < 2 ^ 14 }
+        requires few_read { fill.old.read + PAYLOAD_MAX * length slots.now < 2 ^ 20 }
+        requires may { MayRun (for_each serve_slot slots.now (filling_of self.old fill.old)) (situation (R.contents ring.old) (H.contents host.old) (H.faults host.old)) }
+        ensures ring { IsRingOf (R.held ring.new) self.new }
+        ensures count { fill.new.put ≤ fill.old.put + (OWED_MAX + 1) * length slots.now }
+        ensures read { fill.new.read ≤ fill.old.read + PAYLOAD_MAX * length slots.now }
+        ensures calls { Runs (for_each serve_slot slots.now (filling_of self.old fill.old)) (situation (R.contents ring.old) (H.contents host.old) (H.faults host.old)) (filling_of self.new fill.new) (situation (R.contents ring.new) (H.contents host.new) (H.faults host.new)) }
+    {
+        let mut place = first;
+        for slot in slots {
+            self.serve_slot(ring, host, *slot, place, buffer, fill);
             place = place.wrapping_add(1);
         }
-        self.watch_owed();
     }
 
     // Looks at all connections anew where one may have owed a packet.

@@ -2,25 +2,8 @@
 
 ghost use Rattle.std.specs.Prelude.{◌≡◌, ◌≤◌, ◌<◌, ◌++◌, AllPairs, length, drop, take, filter, nat_lt, nat_le};
 ghost use Rattle.vs_device_parts.specs.Receiving.{round_from};
-ghost use Rattle.vs_limits.specs.declared.TheConstants.{DEVICE_CONNECTIONS};
 
-use arrayvec::ArrayVec;
 use vs_flow::Slot;
-use vs_limits::DEVICE_CONNECTIONS;
-
-/// The slots in the order of a round: those above the slot `last`, then all others.
-pub fn round_from(last: Option<Slot>, slots: &[Slot]) -> ArrayVec<Slot, DEVICE_CONNECTIONS>
-    requires room { length slots.now ≤ DEVICE_CONNECTIONS }
-    requires rising { AllPairs (λ j k. j < k) slots.now }
-    ensures round { result.items ≡ round_from last slots.now }
-{
-    let first = first_from(last, slots);
-    let (others, above) = slots.split_at(first);
-    let mut round = ArrayVec::new();
-    round.try_extend_from_slice(above).unwrap();
-    round.try_extend_from_slice(others).unwrap();
-    round
-}
 
 /// The place of the first slot of a round.
 pub fn first_from(last: Option<Slot>, slots: &[Slot]) -> usize

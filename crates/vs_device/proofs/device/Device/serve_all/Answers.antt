@@ -1,54 +1,50 @@
-use Rattle.std.{proofs.Common.{◌≡◌, ℕ, List, ◌<◌, ◌≤◌, length, sym, ap, subst, ◌∙◌, rules, arith}, specs.List.AllPairs}
+use Rattle.std.proofs.Common.{◌≡◌, ℕ, List, Option, ◌++◌, take, drop, sym, ap, subst, ◌∙◌}
+use Rattle.vs_contents.{specs.CallTree.{bind, for_each}, proofs.{Leads.{leads_of, leads_bind}, Conditions.{may_first, may_rest, may_of}}}
 use Rattle.vs_flow.specs.Table.{slots}
-use Rattle.vs_device_parts.{proofs.Each.{each_more, may_each_step, may_each_more, each_end}, specs.{Filling.filling_of, Receiving.{Filling, serve_slot, round_from}}}
-use Rattle.vs_device_parts.specs.State.{DeviceState}
+use Rattle.vs_device_parts.specs.{Calls.Allows, Filling.{filling_of, serve_all}, Playing.CanMake, Receiving.{Filling, serve_slot, round_from}, State.DeviceState}
+use Rattle.vs_device.proofs.{Trees.each_both, device.Device.serve_all.Goals.After-split_at}
 use Rattle.vs_device.proofs.device.Device.serve_all.Goals as goal
 
-pub round_from-round-requires-clause-rising : goal.round_from-round-requires-clause-rising
-round_from-round-requires-clause-rising g c =
-    subst (λ (xs : List ℕ). AllPairs (λ j k. j < k) xs) (sym (c.as_slice.ensures.value ∙ c.all-slots.ensures.all)) c.all-slots.ensures.rising
+-- the round is those above the slot that last put a packet, and then the others
+parted : (last : Option ℕ) (xs ys zs above others : List ℕ) (n : ℕ) → round_from last ys ≡ drop n ys ++ take n ys → ys ≡ xs → zs ≡ xs
+    → others ≡ take n zs → above ≡ drop n zs → round_from last xs ≡ above ++ others
+parted last xs ys zs above others n round is again front back =
+    rw (front, back, again) (subst (λ (l : List ℕ). round_from last l ≡ drop n l ++ take n l) is round)
 
-pub first_from-place-requires : goal.first_from-place-requires
-first_from-place-requires g c =
-    record { rising = subst (λ (xs : List ℕ). AllPairs (λ j k. j < k) xs) (sym (c.as_slice-2.ensures.value ∙ c.all-slots.ensures.all)) c.all-slots.ensures.rising }
+both : (r : Filling) (above others : List ℕ) → round_from r.state.last_put (slots r.state.table) ≡ above ++ others
+    → serve_all r ≡ bind (for_each serve_slot above r) (for_each serve_slot others)
+both r above others round = rw (round, serve_all) (each_both serve_slot others above r)
 
-pub loop-slot-init : goal.loop-slot-init
-loop-slot-init g c =
-    let is : c.as_slice-slot-items.result.now ≡ round_from c.args.self.now.last_put (slots c.args.self.now.table) =
-    c.as_slice-slot-items.ensures.value ∙ (c.round_from-round.ensures.round ∙ (ap (λ (xs : List ℕ). round_from c.self.inside.last_put xs) (c.as_slice.ensures.value ∙ c.all-slots.ensures.all)
-    ∙ ap (λ (s : DeviceState). round_from s.last_put (slots s.table)) c.self.view_is)) in
-    record {
-      goes_on = λ x t rest. rw is at rest;
-      may = rw is c.requires.may;
-      ring = c.requires.ring;
-      small = omega arith;
-      read = omega (arith, c.requires.none);
-      few = c.as_slice-slot-items.ensures.fits;
-    }
+module _ (g : _) (c : After-split_at g) where
+  abbrev above : List ℕ
+  above = c.split_at.result.1.now
 
-pub serve_slot-requires-clause-may : goal.serve_slot-requires-clause-may
-serve_slot-requires-clause-may g c =
-    let xs = c.as_slice-slot-items.result.now in
-    let within : c.loop-slot.slot-index < length xs = search rules in
-    may_each_step serve_slot xs c.loop-slot.slot-index 0 (filling_of c.loop-slot.self c.loop-slot.fill) within _ c.loop-slot.invariant.may
+  abbrev others : List ℕ
+  others = c.split_at.result.0.now
 
-pub loop-slot-preserved : goal.loop-slot-preserved
-loop-slot-preserved g c =
-    let xs = c.as_slice-slot-items.result.now in
-    let i = c.loop-slot.slot-index in
-    let within : i < length xs = search rules in
-    let r : Filling = filling_of c.loop-slot.self c.loop-slot.fill in
-    record {
-      goes_on = λ x t rest. c.loop-slot.invariant.goes_on x t (each_more serve_slot xs i 0 r within _ _ _ _ _ c.serve_slot.ensures.calls rest);
-      may = may_each_more serve_slot xs i 0 r within _ _ _ c.loop-slot.invariant.may c.serve_slot.ensures.calls;
-      ring = c.serve_slot.ensures.ring;
-      small = omega (arith, c.loop-slot.invariant.small, c.serve_slot.ensures.count);
-      read = omega (arith, c.loop-slot.invariant.read, c.serve_slot.ensures.read);
-      few = c.loop-slot.invariant.few;
-    }
+  abbrev start : Filling
+  start = filling_of c.args.self.now c.args.fill.now
+
+  whole : serve_all start ≡ bind (for_each serve_slot above start) (for_each serve_slot others)
+  whole =
+      both start above others (sym (ap (λ (s : DeviceState). round_from s.last_put (slots s.table)) c.self.view_is)
+      ∙ parted c.self.inside.last_put (slots c.self.inside.slots) _ _ above others c.first_from-first.result c.first_from-first.ensures.round
+      (c.as_slice.ensures.value ∙ c.all-slots.ensures.all) (c.as_slice-2.ensures.value ∙ c.all-slots.ensures.all) c.split_at.ensures.front c.split_at.ensures.back)
+
+pub serve_part-requires-clause-may : goal.serve_part-requires-clause-may
+serve_part-requires-clause-may g c =
+    let k = (goal.at.serve_part-requires-clause-may g c).After-split_at in
+    may_first CanMake Allows (for_each serve_slot (above g k) (start g k)) (for_each serve_slot (others g k)) _
+    (may_of CanMake Allows _ _ _ (whole g k) c.requires.may)
+
+pub serve_part-requires-2-clause-may : goal.serve_part-requires-2-clause-may
+serve_part-requires-2-clause-may g c =
+    let k = (goal.at.serve_part-requires-2-clause-may g c).After-split_at in
+    may_rest CanMake Allows (for_each serve_slot (above g k) (start g k)) (for_each serve_slot (others g k)) _ _ _
+    (may_of CanMake Allows _ _ _ (whole g k) c.requires.may) c.serve_part.ensures.calls
 
 pub returns-clause-calls : goal.returns-clause-calls
 returns-clause-calls g c =
-    let xs = c.as_slice-slot-items.result.now in
-    let ends : length xs ≤ c.loop-slot.slot-index = search rules in
-    rw c.watch_owed.ensures (c.loop-slot.invariant.goes_on _ _ (each_end serve_slot xs c.loop-slot.slot-index (filling_of c.loop-slot.self c.loop-slot.fill) _ ends))
+    let k = (goal.at.returns-clause-calls g c).After-split_at in
+    rw c.watch_owed.ensures (leads_of Allows _ _ _ _ _ (whole g k)
+    (leads_bind Allows (for_each serve_slot (above g k) (start g k)) (for_each serve_slot (others g k)) _ _ _ _ _ c.serve_part.ensures.calls c.serve_part-2.ensures.calls))
