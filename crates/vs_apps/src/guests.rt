@@ -66,8 +66,9 @@ impl<N: RunName> Model for Guests<N> {
 
 /// What the type says of guests: their driver was made under the first CID of shared rings. The calls of each app are, in order, its
 /// instructions. What the journal says was sent on a connection is the payload that the log put there; and what it says was received, with
-/// the bytes that are unread behind, is the payload that was delivered, while the connection receives. The connections that connects opened
-/// have, the oldest first, the guest ports from the first on, one after another up to the last port. All receive and event pages are in flight.
+/// the bytes that are unread behind, is the payload that was delivered, until an app says that it receives no more there or closes it. The
+/// connections that connects opened have, the oldest first, the guest ports from the first on, one after another up to the last port. All
+/// receive and event pages are in flight.
 pub fn laws_of_guests<N: RunName>(guests: &Guests<N>)
     ensures run { IsRunOf FIRST_CID N.script (run_in guests.now) }
     ensures right { AreRight N.script }

@@ -15,9 +15,9 @@ ghost use Rattle.laws_rest.specs.Bytes.{CarryBytes};
 
 /// After any list of events ids were given to connections of which the guest's journal is right: the payload that the driver put on a
 /// connection is just what its sends took, in order; what was received on an id, and then the unread bytes, is the payload that the driver got
-/// on its connection, while that takes payload, and a prefix of it in any case. No two ids have one connection, and they keep theirs. By such
-/// a journal the payload that the device got on a connection is a prefix of what was sent there, what was received on an id one of what the
-/// device put on its connection, and an id without a connection received nothing.
+/// on its connection, until the guest says there that it receives no more or closes the id, and a prefix of it in any case. No two ids have
+/// one connection, and they keep theirs. By such a journal the payload that the device got on a connection is a prefix of what was sent
+/// there, what was received on an id one of what the device put on its connection, and an id without a connection received nothing.
 pub fn law_of_journals()
     ensures right { (how : Beginning) (host : HostContents) (es : List Event) → (opened : ℕ → Connection) × IsRightIn opened (run es (opening how host)) }
     ensures on { (how : Beginning) (host : HostContents) (es more : List Event) → let w = run es (opening how host) in (opened now : ℕ → Connection)
