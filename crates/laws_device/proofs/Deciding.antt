@@ -1,5 +1,5 @@
 -- What the device decided to send no more on, it puts no payload on, over any conversation along which its seat goes by steps.
-use Rattle.std.proofs.Common.{◌≡◌, ℕ, List, [], Some, refl, sym, subst, ◌∙◌}
+use Rattle.std.proofs.Common.{◌≡◌, ℕ, true, List, [], Some, refl, sym, subst, ◌∙◌}
 use Rattle.vs_flow.specs.Connection.{Connection}
 use Rattle.vs_page.specs.Log.{Device}
 use Rattle.vs_ring_port.specs.{Chains.Held, EndLog.EndLog}
@@ -12,6 +12,7 @@ use Rattle.laws_device.proofs.{Logs.goes_on as log_goes_on, Seats.{Carried, seat
 abbrev pub going : Seat → Carried
 going v = record {
   ok = ⊥;
+  stay = true;
   others = λ held. held ≡ [];
   asks = λ f. Unit {0};
   of_host = λ f host. tt;

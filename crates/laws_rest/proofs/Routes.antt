@@ -1,5 +1,5 @@
 -- Where the driver's packets go, carried along its calls.
-use Rattle.std.proofs.{Common.{◌≡◌, ◌≤◌, ◌<◌, ◌^◌, ℕ, Bool, true, false, List, [], ◌∷◌, Result, refl, ap, ◌∙◌, arith}, lemmas.Grind.common_steps}
+use Rattle.std.proofs.{Common.{◌≡◌, ◌==◌, ◌≤◌, ◌<◌, ◌^◌, ℕ, Bool, true, false, List, [], ◌∷◌, Result, refl, ap, ◌∙◌, arith}, lemmas.Grind.common_steps}
 use Rattle.std.{proofs.lemmas.List.Elements.{All-head, All-tail}, specs.List.All}
 use Rattle.vs_header.specs.{Kind.kind_number, declared.{Header.Header, Kind.{Kind, TheVariants.Stream}}}
 use Rattle.vs_flow.specs.{Flow.same_flow, declared.flow.Flow.Flow}
