@@ -227,7 +227,6 @@ module _ (h : HostContents) (log : Log) (port : Ports) (t : Table DeviceConnecti
       let some = (streamed.streams.labels e.value.stream j.stream (connection_of e log) j.there j.label).some in
       record { stream = o.stream; at = o.at; label = o.label; its = stream_is h e.value.stream o.stream (connection_of e log) some o.at o.joined; opened = o.opened }
 
-
   -- What is so of it is so of its connection's.
   pub one_is : (P : Stream → Type 0) (e : DeviceEntry) → Contains t.entries e → ForSome (stream_at e.value.stream h) P → OfOpen (connection_of e log) h P
   one_is P e within so = λ s is opened. let st = has_stream e within in so s (st.at ∙ sym st.its ∙ is)

@@ -1,7 +1,7 @@
 -- Each chain that a conversation returns is held.
 use Rattle.std.proofs.Common.{◌≡◌, suc, ◌<◌, ◌≤◌, Bool, true, false, cond, List, [], ◌∷◌, length, Option, Some, None, Contains, refl, sym, arith}
 use Rattle.vs_contents.specs.CallTree.{Done, Ask, bind, MayPlay}
-use Rattle.vs_ring_port.specs.{Contents.{RingContents, DeviceCall, Take, Read, Write, Return, Given, PublishCid}, Chains.{Held, bytes_in, chains_of, same_chain}}
+use Rattle.vs_ring_port.specs.{Contents.{RingContents, DeviceCall, Return}, Chains.{Held, bytes_in, chains_of, same_chain}}
 use Rattle.vs_ring_port.specs.declared.device_ring.Chain.{Chain}
 use Rattle.vs_ring_list.proofs.Held.{same_chain_is}
 use Rattle.vs_device_parts.specs.{Calls.{Call, Answer, Ring, Situation, DeviceTree, Allows}, Playing.{CanMake, MayRun}}
@@ -50,14 +50,10 @@ written_held chain (h ∷ held) some = by (λ more. written_held chain held more
     by rest false is some = let more = rest some in let lt = more.1 in (suc more.0, omega (arith, lt), more.2)
 
 ring_made : (call : DeviceCall) (s : Situation) → ReturnsSome (Ring call) → CanMake (Ring call) s → IsHeldFor (Ring call) s.ring
-ring_made (Take queue) s some can = tt
-ring_made (Read chain place count) s some can = tt
-ring_made (Write chain place bytes) s some can = tt
 ring_made (Return chain len) s some can = λ l is.
     let written : len ≤ length (bytes_in chain l.held) = (can some).written l is in
     written_held chain l.held (omega (arith, some, written))
-ring_made (Given queue) s some can = tt
-ring_made (PublishCid cid) s some can = tt
+ring_made x s some can = tt
 
 made_held : (call : Call) (s : Situation) → ReturnsSome call → CanMake call s → CanHold call s
 made_held (Ring call) s some can = ring_made call s some can

@@ -1,5 +1,5 @@
 -- Where a stage ends for want of a page: the last load showed none that isn't taken.
-use Rattle.std.proofs.Common.{◌≡◌, ◌≢◌, ◌+◌, ◌-◌, ◌==◌, ℕ, zero, suc, nat_lt, nat_le, Bool, true, false, not, cond, List, [], ◌∷◌, length, Option, Some, None, Result, Err, refl}
+use Rattle.std.proofs.Common.{◌≡◌, ◌≢◌, ◌+◌, ◌-◌, ◌==◌, ℕ, nat_lt, nat_le, Bool, true, false, not, cond, List, [], ◌∷◌, length, Option, Some, None, Result, Err, refl}
 use Rattle.std.proofs.Common.{sym, ap, subst, ◌∙◌}
 use Rattle.vs_conn.specs.{Headers.{owed_header, payload_header}, End.owes_of, declared.end.Owed.Owed}
 use Rattle.vs_contents.{specs.{CallTree.{Ask, Done, bind, for_each, while_up_to}, Contents.Relates}, proofs.Leads.{leads_bind, leads_split}}
@@ -18,6 +18,7 @@ use Rattle.vs_device_parts.specs.{Calls.{DeviceTree, ReadStream, Ring, Situation
 use Rattle.vs_device_parts.specs.{Transmitting.{on_next, on_packet, take_tx_of}, declared.answers.{Filled.Filled, Taken.Taken}, State.{DeviceConnection, DeviceEntry, DeviceState}}
 use Rattle.vs_device_parts.specs.{Steps.filling, Streams.{closing, leaving}, Playing.Runs}
 use Rattle.laws_device.{specs.Named.Waiting.filling_of, proofs.{Named.Keeping.{Keeps, asking, keeps_each, keeps_end, keeps_then}, Walk.Keeping.{keeps_if, keeps_some}}}
+use Rattle.laws_device.proofs.Walk.Keeping as walked
 use Rattle.vs_conn.specs.declared.end.Owed.TheVariants as owed
 use Rattle.vs_outside.specs.declared.host_net.StreamRead.TheVariants as read
 use Rattle.vs_ring_port.specs.declared.device_ring.Next.TheVariants as next
@@ -59,8 +60,7 @@ module _ (a : Option Known) where
   Goes rs q d = (q.over ≡ false) × Ends rs q d
 
   abbrev pub Steps : List Reply → List Reply → Filling × Bool → Situation → Type 0
-  Steps rs rs' (q, true) d = Goes rs q d
-  Steps rs rs' (q, false) d = Ends rs' q d
+  Steps rs rs' = walked.Goes (asking CanAny Allows) (Goes rs) (Ends rs')
 
   going : (rs : List Reply) (q : Filling) (d : Situation) → q.over ≡ false → Grown Rx a d → q.state.replies ≡ rs → Goes rs q d
   going rs q d on grown same = (on, (grown, (λ over failed. absurd cc), λ _. same))
@@ -74,14 +74,6 @@ module _ (a : Option Known) where
       by : (b : Bool) → q.over ≡ b → Steps rs rs' (q, not b) d
       by true over = over_ends rs rs' q d over ends
       by false on = (on, ends)
-
-  -- A loop of such steps.
-  by_last : (rs rs' : List Reply) (n : ℕ) (step : Filling → DeviceTree (Filling × Bool))
-      → ((q : Filling) (d : Situation) → Goes rs q d → Keeps CanAny Allows (Ends rs') (while_up_to n step q) d)
-      → (x : Filling × Bool) (d : Situation) → Steps rs rs' x d
-      → Keeps CanAny Allows (Ends rs') (elim x.1 [ true ↦ while_up_to n step x.0 | false ↦ Done x.0 ]) d
-  by_last rs rs' n step rest (q, true) d on = rest q d on
-  by_last rs rs' n step rest (q, false) d ends = ends
 
   -- A chain is held, or there is none, and the stage is over.
   abbrev HeldWith : List Reply → Filling → Situation → Option Chain → Type 0
@@ -192,7 +184,7 @@ module _ (a : Option Known) where
       let P : List Reply → Type 0 = λ owed. Keeps CanAny Allows (Steps rs []) (put_reply_of owed r) c in
       keeps_then CanAny Allows (Ends []) (Steps rs []) (put_reply r)
       (λ x. elim x.1 [ true ↦ while_up_to (length rs) put_reply x.0 | false ↦ Done x.0 ]) c (subst P (sym (goes.1.2 goes.0)) first)
-      (by_last rs [] (length rs) put_reply (λ q d on. replies_keep rs q d on))
+      (walked.by_last (asking CanAny Allows) (Goes rs) (Ends []) (length rs) put_reply (λ q d on. replies_keep rs q d on))
 
   -- The host's calls leave the ring.
   keeps_closing : (rs : List Reply) (e : DeviceEntry) (f : DeviceConnection → DeviceConnection) (s : DeviceState) (c : Situation) → Leaves rs s c
@@ -230,11 +222,7 @@ module _ (a : Option Known) where
 
   owed_keep : (rs : List Reply) (slot n : ℕ) (r : Filling) (c : Situation) → Goes rs r c
       → Keeps CanAny Allows (Ends rs) (while_up_to n (put_owed slot) r) c
-  owed_keep rs slot zero r c goes = goes.1
-  owed_keep rs slot (suc n) r c goes =
-      keeps_then CanAny Allows (Ends rs) (Steps rs rs) (put_owed slot r)
-      (λ x. elim x.1 [ true ↦ while_up_to n (put_owed slot) x.0 | false ↦ Done x.0 ]) c (keeps_put_owed rs slot r c goes)
-      (by_last rs rs n (put_owed slot) (λ q d on. owed_keep rs slot n q d on))
+  owed_keep rs slot = walked.goes_while (asking CanAny Allows) (Goes rs) (Ends rs) (λ q d on. on.1) (put_owed slot) (keeps_put_owed rs slot)
 
   -- What it reads.
   keeps_read_answered : (rs : List Reply) (chain : Chain) (e : DeviceEntry) (answer : StreamRead) (payload : List ℕ) (r : Filling) (c : Situation)

@@ -43,18 +43,19 @@ module _ {S : Type 0} (K : Asking S) where
   Goes P E (x, true) c = P x c
   Goes P E (x, false) c = E x c
 
-  module _ {A : Type 0} (P E : A → S → Type 0) (ends : (x : A) (c : S) → P x c → E x c) where
-    by_last : (n : ℕ) (step : A → DeviceTree (A × Bool)) → ((x : A) (c : S) → P x c → Keeps E (while_up_to n step x) c)
+  module _ {A : Type 0} (P E : A → S → Type 0) where
+    pub by_last : (n : ℕ) (step : A → DeviceTree (A × Bool)) → ((x : A) (c : S) → P x c → Keeps E (while_up_to n step x) c)
         → (r : A × Bool) (d : S) → Goes P E r d → Keeps E (elim r.1 [ true ↦ while_up_to n step r.0 | false ↦ Done r.0 ]) d
     by_last n step rest (y, true) d kept = rest y d kept
     by_last n step rest (y, false) d kept = kept
 
+  module _ {A : Type 0} (P E : A → S → Type 0) (ends : (x : A) (c : S) → P x c → E x c) where
     pub goes_while : (step : A → DeviceTree (A × Bool)) → ((x : A) (c : S) → P x c → Keeps (Goes P E) (step x) c)
         → (n : ℕ) (x : A) (c : S) → P x c → Keeps E (while_up_to n step x) c
     goes_while step each zero x c holds = ends x c holds
     goes_while step each (suc n) x c holds =
         keeps_then E (Goes P E) (step x) (λ r. elim r.1 [ true ↦ while_up_to n step r.0 | false ↦ Done r.0 ]) c (each x c holds)
-        (by_last n step (λ y d kept. goes_while step each n y d kept))
+        (by_last P E n step (λ y d kept. goes_while step each n y d kept))
 
   module _ {A : Type 0} (Q : A → S → Type 0) where
     same_goes : (r : A × Bool) (c : S) → Q r.0 c → Goes Q Q r c
