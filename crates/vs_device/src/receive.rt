@@ -134,7 +134,6 @@ impl Device {
     }
 
     // Serves the connections in some slots, one after the other. The first of them stands at a place of the table, if none went before.
-    #[inline(always)]
     fn serve_part<R: DeviceRing, H: HostNet>(
         &mut self,
         ring: &mut R,
@@ -168,6 +167,7 @@ impl Device {
     }
 
     // Serves the connection in a slot: its stream is read, and what it owes is put.
+    #[inline(always)]
     fn serve_slot<R: DeviceRing, H: HostNet>(
         &mut self,
         ring: &mut R,
@@ -208,6 +208,7 @@ impl Device {
 
     // Serves the connection in a slot, which reads a stream with so much credit and owes nothing. Where nothing comes of the read it owes
     // nothing still.
+    #[inline(always)]
     fn serve_reading<R: DeviceRing, H: HostNet>(
         &mut self,
         ring: &mut R,
