@@ -1,5 +1,5 @@
 -- Flows that may be used again, as one of them is given, and the port that is given next.
-use Rattle.std.proofs.{Common.{◌≡◌, ℕ, ◌<◌, ◌≤◌, Bool, true, false, List, [], ◌∷◌, ap, ◌∙◌, arith}, lemmas.{Bool.Decides.nat_tests, Grind.common_steps}}
+use Rattle.std.proofs.{Common.{◌≡◌, ℕ, ◌<◌, ◌≤◌, true, false, List, [], ◌∷◌, ap, ◌∙◌, arith}, lemmas.{Bool.Decides.nat_tests, Grind.common_steps}}
 use Rattle.vs_flow.specs.{CleanPairs.without_oldest, Flow.same_flow, declared.flow.Flow.Flow}
 use Rattle.laws_tables.{specs.{Ends.{AreDistinct, is_among}, Steps.port_after}, proofs.{Entries.without_own, Found.removed_flow}}
 
