@@ -2,7 +2,7 @@
 use Rattle.laws_device.{specs.{Carried.Streamed.ports_of, Honest.IsWith, Named.Streams.HasStreams, Streams.AreStreamedWith}, proofs.Carrying.{With, held_with, plain_with}}
 use Rattle.laws_device.proofs.{Carrying.{ring_and_host, ring_only, with_ring, with_streams}, Changing.grows, Carried.Changing.ends_streams, Named.Tables.entry_by_slot}
 use Rattle.laws_device.proofs.{Named.Tables.{has_changed, value_by_entry}, Steps.changed, Seats.Carried, Walk.Serving.by_slot}
-use Rattle.std.proofs.Common.{◌≡◌, ℕ, true, List, [], Option, Some, None, refl}
+use Rattle.std.proofs.Common.{◌≡◌, ℕ, List, [], Option, Some, None, refl}
 use Rattle.vs_conn.specs.End.{grown}
 use Rattle.vs_flow.specs.Table.{entry_under}
 use Rattle.vs_outside.specs.Host.{HostContents}

@@ -483,12 +483,12 @@ module _ (script : RunScript) (driver : DriverState) (end : Sight) (apps : List 
         (account.right.received.passed id)
 
     -- Clients have their streams.
+    pub client_there : (id : ℕ) → 1 ≤ (opened id).number → host_asks (opened id).flow ≡ true → HasStream (opened id) h
+    client_there id some asks =
+        clients_stream h e.sight.log (ports_of true p.next_port p.device) p.device.table p.handshakes on (opened id) some asks (passed_there id)
+
     clients_run : AreClients opened (opened_all (length script) entries) h
-    clients_run i d less = of _ (all_opened opened (length script) entries account.flows i d less)
-      where
-        of : (o : Opened) → (1 ≤ (opened o.id).number) × ((opened o.id).flow ≡ o.flow) → host_asks (opened o.id).flow ≡ true → HasStream (opened o.id) h
-        of o has asks = clients_stream h e.sight.log (ports_of true p.next_port p.device) p.device.table p.handshakes on (opened o.id) has.0 asks
-            (passed_there o.id)
+    clients_run i d less = client_there _ (all_opened opened (length script) entries account.flows i d less).0
 
     dialed_run : p.device.faults ≡ 0 → p.device.dropped ≡ 0 → AreDialed p.device.base opened (opened_all (length script) entries) h
     dialed_run faultless undropped i d less = of _ (all_opened opened (length script) entries account.flows i d less)

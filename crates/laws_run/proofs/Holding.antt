@@ -31,7 +31,7 @@ use Rattle.vs_report.specs.declared.giving.Totals.{Totals}
 use Rattle.vs_run_report.specs.{Connections.opened_all, Endings.{ending_at, state_at, why_at}, Report.ended_at, Right.IsRightReport, declared.connection.Opened.Opened}
 use Rattle.vs_run_report.specs.declared.ending.Ending.{Ending}
 use Rattle.laws_run.specs.{Complete.IsCompleteRun, Dry.{AreIdle, stream_open}, Places.{ArePlaceWaits, IsPlaceEnding, IsPlaceWait, LacksClient, LacksPlace, has_line, holds_slot}}
-use Rattle.laws_run.{specs.Places.{is_unaccepted, is_unlabelled, takes_none}, proofs.{Alike.HasApart, Completing.{apart, closing_full, complete_run, contained, ends, entry_for}}}
+use Rattle.laws_run.{specs.Places.{is_unaccepted, takes_none}, proofs.{Alike.HasApart, Completing.{apart, client_there, closing_full, complete_run, contained, ends, entry_for}}}
 use Rattle.laws_run.proofs.{Completing.{flow_known, id_open, id_some, live, on, some_known}, Endings.Ends, Halting.{Halts, Stops, last_of}, Lines.{closed_was_given, given_line}}
 use Rattle.laws_run.proofs.{Lines.listened_in, Open.{equivalence, open_stream, pairs_map, pairs_of}, Reporting.{accounted, right_with}}
 use Rattle.vs_driver_parts.specs.declared.answers.ConnectionState.TheVariants as seen
@@ -307,20 +307,14 @@ module _ (script : RunScript) (driver : DriverState) (end : Sight) (apps : List 
     abbrev its_stream_of : ℕ → Option Connection
     its_stream_of id = connection_at id h
 
-    abbrev left_of : GoneConnection → Option Connection
-    left_of g = Some (opened g.id)
-
     abbrev lined_ones : List Opened
     lined_ones = filter (holds_slot opened journal h) lines
 
     abbrev unaccepted_ones : List ℕ
     unaccepted_ones = filter (is_unaccepted opened lines h) (range_with_len 1 (length h.streams))
 
-    abbrev unlabelled_ones : List GoneConnection
-    unlabelled_ones = filter (is_unlabelled opened lines h) driver.gone
-
     abbrev counted : List Connection
-    counted = filter_map line_of lined_ones ++ (filter_map its_stream_of unaccepted_ones ++ filter_map left_of unlabelled_ones)
+    counted = filter_map line_of lined_ones ++ filter_map its_stream_of unaccepted_ones
 
     -- One with a line, which holds its slot if that isn't closed, or takes nothing.
     line_counts : (id : ℕ) → 1 ≤ (opened id).number → (not (was_closed id journal) || takes_none (opened id) h) ≡ true
@@ -335,7 +329,7 @@ module _ (script : RunScript) (driver : DriverState) (end : Sight) (apps : List 
         (subst (λ (i : ℕ). (not (was_closed i journal) || takes_none (opened i) h) ≡ true) named holds)
         (ap (λ (c : Connection). let p : Option Connection = Some c in p) (sym same)))
 
-    -- One without, which has a stream; or none.
+    -- One without, which has a stream.
     stream_counts : (c : Connection) → 1 ≤ c.number → host_asks c.flow ≡ true → has_line opened lines c ≡ false → (s : Stream) → stream_of c h ≡ Some s
         → Contains counted c
     stream_counts c some assigned none s is =
@@ -344,19 +338,11 @@ module _ (script : RunScript) (driver : DriverState) (end : Sight) (apps : List 
         room same_apps same_entries polled told past heard polls still same_driver streams idle)
         c some s is in
         let here = connection_seen it.id s c h some it.at it.label in
-        Contains-append_right (filter_map line_of lined_ones) _ c (Contains-append_left (filter_map its_stream_of unaccepted_ones) _ c
+        Contains-append_right (filter_map line_of lined_ones) _ c
         (within_seen its_stream_of (is_unaccepted opened lines h) (range_with_len 1 (length h.streams)) it.id c (in_range it.id s h it.at)
         (ap (λ (o : Option Stream). option_map_or (λ y. y.by_client) o false && option_map_or (λ d. not (has_line opened lines d)) (connection_at it.id h) false) it.at
         ∙ ap (λ (b : Bool). b && option_map_or (λ d. not (has_line opened lines d)) (connection_at it.id h) false) (it.own.client ∙ assigned)
-        ∙ ap (λ (o : Option Connection). option_map_or (λ d. not (has_line opened lines d)) o false) here ∙ ap (λ (b : Bool). not b) none) here))
-
-    gone_counts : (g : GoneConnection) → Contains driver.gone g → host_asks g.flow ≡ true → has_line opened lines (opened g.id) ≡ false
-        → stream_of (opened g.id) h ≡ None → Contains counted (opened g.id)
-    gone_counts g within assigned none alone =
-        Contains-append_right (filter_map line_of lined_ones) _ (opened g.id) (Contains-append_right (filter_map its_stream_of unaccepted_ones) _ (opened g.id)
-        (within_seen left_of (is_unlabelled opened lines h) driver.gone g (opened g.id) within
-        (ap (λ (b : Bool). b && (not (has_line opened lines (opened g.id)) && not (is_some (stream_of (opened g.id) h)))) assigned
-        ∙ ap (λ (b : Bool). not b && not (is_some (stream_of (opened g.id) h))) none ∙ ap (λ (o : Option Stream). not (is_some o)) alone) refl))
+        ∙ ap (λ (o : Option Connection). option_map_or (λ d. not (has_line opened lines d)) o false) here ∙ ap (λ (b : Bool). not b) none) here)
 
     -- Where it wasn't given: it waits, so it is a client's.
     of_client : (id : ℕ) (f : Flow) → IsPlaced journal driver.listeners id f → has_line opened lines (opened id) ≡ false → host_asks f ≡ true
@@ -389,15 +375,13 @@ module _ (script : RunScript) (driver : DriverState) (end : Sight) (apps : List 
         at : IsPlacedGone journal driver.listeners g
         at = All-contains (IsPlacedGone journal driver.listeners) driver.gone g placed.gone within
 
-        streams_of : (o : Option Stream) → stream_of (opened g.id) h ≡ o → has_line opened lines (opened g.id) ≡ false → Contains counted (opened g.id)
-        streams_of None is none = gone_counts g within (of_client g.id g.flow at.placed none) none is
-        streams_of (Some s) is none =
-            stream_counts (opened g.id) (in_gone g within).0
-            (ap (λ (f : Flow). host_asks f) (in_gone g within).1 ∙ of_client g.id g.flow at.placed none) none s is
-
         by : (b : Bool) → has_line opened lines (opened g.id) ≡ b → Contains counted (opened g.id)
         by true has = line_counts g.id (in_gone g within).0 (or_first (not (was_closed g.id journal)) _ (ap (λ (b : Bool). not b) at.kept)) has
-        by false none = streams_of (stream_of (opened g.id) h) refl none
+        by false none =
+            let asks = ap (λ (f : Flow). host_asks f) (in_gone g within).1 ∙ of_client g.id g.flow at.placed none in
+            let s = client_there script driver end apps entries bytes p e h faults run settled steady old stood all
+            room same_apps same_entries polled told past heard polls still same_driver streams idle
+            opened account g.id (in_gone g within).0 asks in stream_counts (opened g.id) (in_gone g within).0 asks none s.0 s.1
 
     -- They differ.
     abbrev holders : List Connection
@@ -421,26 +405,24 @@ module _ (script : RunScript) (driver : DriverState) (end : Sight) (apps : List 
         (All-map (Contains counted) (λ x. opened x.value.id) driver.table.entries (λ k d less. entry_counts _ (Contains-get_or driver.table.entries k d less)))
         (All-map (Contains counted) (λ g. opened g.id) driver.gone (λ k d less. left_counts _ (Contains-get_or driver.gone k d less)))
 
-    lacks_place : is_full driver ≡ true → LacksPlace opened journal lines driver h
+    lacks_place : is_full driver ≡ true → LacksPlace opened journal lines h
     lacks_place full =
         let all_held = few holders counted holders_differ holders_count in
         let held = length-append (map (λ x. opened x.value.id) driver.table.entries) (map (λ g. opened g.id) driver.gone) in
         let first = length-map driver.table.entries (λ x. opened x.value.id) in
         let second = length-map driver.gone (λ g. opened g.id) in
-        let many = length-append (filter_map line_of lined_ones) (filter_map its_stream_of unaccepted_ones ++ filter_map left_of unlabelled_ones) in
-        let more = length-append (filter_map its_stream_of unaccepted_ones) (filter_map left_of unlabelled_ones) in
+        let many = length-append (filter_map line_of lined_ones) (filter_map its_stream_of unaccepted_ones) in
         let own = few_seen line_of lined_ones in
         let its = few_seen its_stream_of unaccepted_ones in
-        let rest = few_seen left_of unlabelled_ones in
-        most (length driver.table.entries + length driver.gone) full (omega (arith, all_held, held, first, second, many, more, own, its, rest))
+        most (length driver.table.entries + length driver.gone) full (omega (arith, all_held, held, first, second, many, own, its))
       where
-        most : (n : ℕ) → nat_le DRIVER_CONNECTIONS n ≡ true → n ≤ length lined_ones + (length unaccepted_ones + length unlabelled_ones)
-            → LacksPlace opened journal lines driver h
+        most : (n : ℕ) → nat_le DRIVER_CONNECTIONS n ≡ true → n ≤ length lined_ones + length unaccepted_ones
+            → LacksPlace opened journal lines h
         most n is fits = let least : DRIVER_CONNECTIONS ≤ n = grind (arith, nat_tests, is) in omega (arith, least, fits)
 
     -- Each app.
     halts_so : (k : ℕ) (why : WaitsFor) → Halts old.driver (acts_of k script) (state_at k apps).progress why driver
-        → IsPlaceWait script opened journal lines driver h (acts_of k script) (state_at k apps).progress why
+        → IsPlaceWait script opened journal lines h (acts_of k script) (state_at k apps).progress why
     halts_so k waits.Full halts = lacks_place (full_call halts.call driver (halts.stops joined))
     halts_so k waits.NoneWaiting halts = λ port at.
         let q : Progress = (state_at k apps).progress in
@@ -455,12 +437,12 @@ module _ (script : RunScript) (driver : DriverState) (end : Sight) (apps : List 
     halts_so k waits.NotOpen halts = tt
 
     ends_so : (k : ℕ) → Ends old.driver script k apps entries driver
-        → IsPlaceEnding script opened journal lines driver h (acts_of k script) (state_at k apps).progress (ended_at script apps entries k)
+        → IsPlaceEnding script opened journal lines h (acts_of k script) (state_at k apps).progress (ended_at script apps entries k)
     ends_so k (inl done) =
-        subst (λ (b : Bool). IsPlaceEnding script opened journal lines driver h (acts_of k script) (state_at k apps).progress
+        subst (λ (b : Bool). IsPlaceEnding script opened journal lines h (acts_of k script) (state_at k apps).progress
         (cond b (ending_at ((state_at k apps).progress.at + 1) (why_at (state_at k apps).waiting entries)) ending.Done)) (sym done) tt
     ends_so k (inr rests) =
-        subst (λ (x : Ending). IsPlaceEnding script opened journal lines driver h (acts_of k script) (state_at k apps).progress x) (sym rests.ended)
+        subst (λ (x : Ending). IsPlaceEnding script opened journal lines h (acts_of k script) (state_at k apps).progress x) (sym rests.ended)
         (halts_so k rests.why rests.halts)
 
   -- The report, with all that is so of it.
@@ -469,7 +451,7 @@ module _ (script : RunScript) (driver : DriverState) (end : Sight) (apps : List 
       → (1 ≤ t.counters.faults → one_more before ≤ after) → IsRightReport script apps entries bytes t opened end.log h before after)
       × ((t : Totals) → t.guest_open ≡ length (guest_shown driver) → t.device_open ≡ length (device_shown p.device) → t.counters ≡ counters_of p.device
       → IsCompleteRun script apps entries bytes t p.device.base opened h)
-      × ArePlaceWaits script apps entries bytes driver opened h
+      × ArePlaceWaits script apps entries bytes opened h
   complete_report =
       let of = accounted script driver end apps entries bytes p e h faults run settled steady old stood all same_apps same_entries streams in (
         of.0,

@@ -1,12 +1,12 @@
 -- At rest each connection of a client that has a line has its stream, and so has each that an app asked for whose REQUEST was served.
-use Rattle.std.proofs.Common.{◌≡◌, ◌≤◌, ◌⊎◌, ◌&&◌, ◌||◌, not, nat_lt, inl, inr, ℕ, Bool, true, false, List, [], ◌∷◌, length, Some, refl, subst, ap, ◌∙◌, sym, arith}
+use Rattle.std.proofs.Common.{◌≡◌, ◌≤◌, ◌⊎◌, ◌&&◌, ◌||◌, not, nat_lt, inl, inr, ℕ, Bool, true, false, List, [], ◌∷◌, length, refl, subst, ap, ◌∙◌, arith}
 use Rattle.std.{proofs.lemmas.{Bool.Decides.nat_tests, List.Elements.{All-cons, All-head, All-nil, All-tail}}, specs.List.All}
 use Rattle.vs_conn.specs.End.{is_of}
 use Rattle.vs_limits.specs.declared.TheConstants.{DEVICE_CONNECTIONS}
 use Rattle.laws_history.specs.declared.packet.Packet.{Packet}
 use Rattle.vs_page.specs.{Log.{packets_got, packets_put}, declared.log.LogEntry.TheVariants.{GotPacket, PutPacket}}
 use Rattle.laws_rest.specs.Rest.{AreRouted}
-use Rattle.vs_flow.specs.{Connection.Connection, Flow.host_asks, Table.Table, declared.flow.Flow.Flow}
+use Rattle.vs_flow.specs.{Connection.Connection, Flow.host_asks, Table.Table}
 use Rattle.laws_history.specs.Packets.{has, is_clean_rst, is_request}
 use Rattle.laws_history.specs.History.{puts}
 use Rattle.vs_outside.specs.Host.{HostContents}

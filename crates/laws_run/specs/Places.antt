@@ -1,12 +1,11 @@
 -- What a wait for a place and a wait for a client say, of a run that is at rest.
-use Rattle.std.specs.{List.{filter, list_any, range_with_len}, Option.option_map_or, Prelude.{◌≡◌, ℕ, ◌+◌, ◌<◌, ◌≤◌, ◌==◌, ◌&&◌, ◌||◌, is_some, not, Bool, true, false, List}}
+use Rattle.std.specs.{List.{filter, list_any, range_with_len}, Option.option_map_or, Prelude.{◌≡◌, ℕ, ◌+◌, ◌<◌, ◌≤◌, ◌==◌, ◌&&◌, ◌||◌, not, Bool, true, false, List}}
 use Rattle.std.specs.Prelude.{length, slice_get, Some}
-use Rattle.vs_flow.specs.{Connection.Connection, Flow.host_asks}
+use Rattle.vs_flow.specs.Connection.{Connection}
 use Rattle.vs_limits.specs.declared.TheConstants.{DRIVER_CONNECTIONS}
 use Rattle.vs_outside.specs.{Host.{HostContents, stream_at}, HostBytes.{connection_at, stream_of}}
 use Rattle.laws_tables.specs.Drains.{is_same}
 use Rattle.vs_script.specs.App.{Act, Accept, Listen}
-use Rattle.vs_driver_parts.specs.State.{DriverState, GoneConnection}
 use Rattle.laws_device.specs.Streams.{is_open_in}
 use Rattle.laws_driver.specs.Carried.Calls.{Journal}
 use Rattle.vs_apps_parts.specs.{Journals.calls_of, Scripts.{RunScript, acts_of}, declared.{journal.{Entry.Entry, WaitsFor.WaitsFor}, progress.AppState.AppState}}
@@ -29,21 +28,16 @@ holds_slot opened journal h o = not (was_closed o.id journal) || takes_none (ope
 abbrev pub has_line : (ℕ → Connection) → List Opened → Connection → Bool
 has_line opened lines c = list_any (λ o. is_same c (opened o.id)) lines
 
--- A client's stream, by its id, that is a connection without a line; and a client's connection without a line that has left the guest's table, and has no
--- stream.
+-- A client's stream, by its id, that is a connection without a line.
 abbrev pub is_unaccepted : (ℕ → Connection) → List Opened → HostContents → ℕ → Bool
 is_unaccepted opened lines h id =
     option_map_or (λ s. s.by_client) (stream_at id h) false && option_map_or (λ c. not (has_line opened lines c)) (connection_at id h) false
 
-abbrev pub is_unlabelled : (ℕ → Connection) → List Opened → HostContents → GoneConnection → Bool
-is_unlabelled opened lines h g =
-    host_asks g.flow && (not (has_line opened lines (opened g.id)) && not (is_some (stream_of (opened g.id) h)))
-
 -- All slots of the driver are held: by those that have lines, and by clients' that nobody accepted.
-abbrev pub LacksPlace : (ℕ → Connection) → Journal → List Opened → DriverState → HostContents → Type 0
-LacksPlace opened journal lines s h =
+abbrev pub LacksPlace : (ℕ → Connection) → Journal → List Opened → HostContents → Type 0
+LacksPlace opened journal lines h =
     DRIVER_CONNECTIONS ≤ length (filter (holds_slot opened journal h) lines)
-    + (length (filter (is_unaccepted opened lines h) (range_with_len 1 (length h.streams))) + length (filter (is_unlabelled opened lines h) s.gone))
+    + length (filter (is_unaccepted opened lines h) (range_with_len 1 (length h.streams)))
 
 -- The script listens on the port; and each connection on it whose stream is open has a line.
 pub record LacksClient (script : RunScript) (opened : ℕ → Connection) (lines : List Opened) (h : HostContents) (port : ℕ) : Type 0 where
@@ -51,17 +45,17 @@ pub record LacksClient (script : RunScript) (opened : ℕ → Connection) (lines
   pub lined : (c : Connection) → c.flow.guest ≡ port → 1 ≤ c.number → stream_open c h ≡ true → has_line opened lines c ≡ true
 
 -- So the waits of an app at its next instruction say, where ids were given to these connections.
-abbrev pub IsPlaceWait : RunScript → (ℕ → Connection) → Journal → List Opened → DriverState → HostContents → List Act → Progress → WaitsFor → Type 0
-IsPlaceWait script opened journal lines s h acts p waits.Full = LacksPlace opened journal lines s h
-IsPlaceWait script opened journal lines s h acts p waits.NoneWaiting =
+abbrev pub IsPlaceWait : RunScript → (ℕ → Connection) → Journal → List Opened → HostContents → List Act → Progress → WaitsFor → Type 0
+IsPlaceWait script opened journal lines h acts p waits.Full = LacksPlace opened journal lines h
+IsPlaceWait script opened journal lines h acts p waits.NoneWaiting =
     (port : ℕ) → slice_get acts p.at ≡ Some (Accept port) → LacksClient script opened lines h port
-IsPlaceWait script opened journal lines s h acts p why = Unit {0}
+IsPlaceWait script opened journal lines h acts p why = Unit {0}
 
-abbrev pub IsPlaceEnding : RunScript → (ℕ → Connection) → Journal → List Opened → DriverState → HostContents → List Act → Progress → Ending → Type 0
-IsPlaceEnding script opened journal lines s h acts p (ending.Waited why at) = IsPlaceWait script opened journal lines s h acts p why
-IsPlaceEnding script opened journal lines s h acts p e = Unit {0}
+abbrev pub IsPlaceEnding : RunScript → (ℕ → Connection) → Journal → List Opened → HostContents → List Act → Progress → Ending → Type 0
+IsPlaceEnding script opened journal lines h acts p (ending.Waited why at) = IsPlaceWait script opened journal lines h acts p why
+IsPlaceEnding script opened journal lines h acts p e = Unit {0}
 
-abbrev pub ArePlaceWaits : RunScript → List AppState → List Entry → List ℕ → DriverState → (ℕ → Connection) → HostContents → Type 0
-ArePlaceWaits script apps entries bytes s opened h = (k : ℕ) → k < length script
-    → IsPlaceEnding script opened (calls_of script bytes entries) (opened_all (length script) entries) s h (acts_of k script) (state_at k apps).progress
+abbrev pub ArePlaceWaits : RunScript → List AppState → List Entry → List ℕ → (ℕ → Connection) → HostContents → Type 0
+ArePlaceWaits script apps entries bytes opened h = (k : ℕ) → k < length script
+    → IsPlaceEnding script opened (calls_of script bytes entries) (opened_all (length script) entries) h (acts_of k script) (state_at k apps).progress
     (ended_at script apps entries k)

@@ -21,11 +21,12 @@ ghost use Rattle.laws_run.specs.{Complete.IsCompleteRun, Dry.AreIdle, Places.Are
 /// and at an exchange it sent all of that, or lacks credit too; one that waits for bytes or for credit is on a connection whose stream is open, which
 /// in the latter case takes nothing now, and of what was sent there the host's program has more than half of the buffer space still to read; none
 /// waits for a connection to open, or for a page, where a page could be put at first; both tables have as many entries as there are streams with a label
-/// that the proxy hasn't closed; each connect and accept that an app carried out opened a connection of its own, or was refused; on each connection
+/// that the proxy hasn't closed; each connect and accept that an app carried out opened a connection of its own, or was refused; each of a client has its
+/// stream, and so has each of the guest's to a port at which the host listens, where no fault was counted, unless 64 streams have a label; on each connection
 /// what the instructions name that the app carried out before it shut that was moved, unless one of them was over early, which where its stream is open is
 /// where that ended or was closed; and one that an app closed is closed or takes nothing (Virtio 1.2, section 5.10.6.5). An app that waits for a place
-/// finds all of the driver's slots held, by connections that an app opened and no close found, or whose stream takes nothing now, and by connections of
-/// the host's clients that no app accepted; one that waits for a client does so on a port on which the script listens, and each connection on it whose
+/// finds all of the driver's slots held, by connections that an app opened and no close found, or whose stream takes nothing now, and by streams of
+/// the host's clients that are connections which no app accepted; one that waits for a client does so on a port on which the script listens, and each connection on it whose
 /// stream is open was given to an app.
 pub fn law_of_complete_runs()
     ensures { (script : RunScript) (driver : DriverState) (end : Sight) (apps : List AppState) (entries : List Entry) (bytes : List ℕ)
@@ -40,5 +41,5 @@ pub fn law_of_complete_runs()
         → (opened : ℕ → Connection) × ((t : Totals) (before after : ℕ) → t.broken ≡ driver.broken → t.counters.overrun ≡ p.device.overrun
         → t.counters.dropped ≡ 0 → (1 ≤ t.counters.faults → one_more before ≤ after) → IsRightReport script apps entries bytes t opened end.log h before after)
         × ((t : Totals) → t.guest_open ≡ length (guest_shown driver) → t.device_open ≡ length (device_shown p.device)
-        → t.counters ≡ counters_of p.device → IsCompleteRun script apps entries bytes t p.device.base opened h) × ArePlaceWaits script apps entries bytes driver opened h }
+        → t.counters ≡ counters_of p.device → IsCompleteRun script apps entries bytes t p.device.base opened h) × ArePlaceWaits script apps entries bytes opened h }
 {}

@@ -31,7 +31,7 @@ HasRightReport script start g s =
     ForSome start.contents IsUnlabelled → ForSome s.contents (λ h.
     (opened : ℕ → Connection) × IsRightReport script g.apps g.entries g.bytes (totals_of g s.proxy) opened g.end.log h start.faults s.faults
     × IsCompleteRun script g.apps g.entries g.bytes (totals_of g s.proxy) s.proxy.device.base opened h
-    × ArePlaceWaits script g.apps g.entries g.bytes g.driver opened h)
+    × ArePlaceWaits script g.apps g.entries g.bytes opened h)
 
 -- The journal is that of a run of the script, whose connects gave the guest ports from the first on, one after another; both ends are at rest; in the
 -- last round nothing moved, and each app was done or waited; the stream of each connection that may read it, and has credit, has nothing to be taken,
