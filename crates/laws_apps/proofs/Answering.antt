@@ -1,9 +1,10 @@
 -- Calls and polls keep what a journal's calls were given, against the driver's next id and its listeners.
+use Rattle.std.proofs.lemmas.Grind.{common_steps}
 use Rattle.std.proofs.Common.{◌≡◌, ◌⊎◌, inl, inr, ℕ, ◌+◌, ◌<◌, ◌≤◌, ◌==◌, ◌&&◌, ◌||◌, nat_le, not, Bool, true, false, cond, List, [], ◌∷◌, ◌++◌, length, find, take, Option, Some}
 use Rattle.std.proofs.{Common.{None, is_some, Result, Ok, Err, refl, sym, ap, subst, ◌∙◌, arith}, lemmas.{Bool.{and_parts, eq-eqb, eqb-true}, List.Elements.All-contains}}
 use Rattle.std.{proofs.lemmas.Option.same_Some, specs.{List.list_any, Option.{option_map, option_map_or}}}
 use Rattle.vs_contents.{specs.CallTree.{Done, bind}, proofs.Leads.{AllEnds, end_of}}
-use Rattle.vs_conn.specs.{End.{is_reset, verdict_of}, declared.end.{Owed.Owed, State.State, Verdict.Verdict}}
+use Rattle.vs_conn.specs.{End.{is_reset, verdict_of}, declared.end.{Owed.Owed, Verdict.Verdict}}
 use Rattle.vs_flow.{proofs.Entries.found_passes, specs.{CleanPairs.of_host, Flow.{host_asks, is_assigned}, Table.entry_of, declared.flow.Flow.Flow}}
 use Rattle.vs_limits.specs.declared.TheConstants.{DRIVER_CONNECTIONS, HOST_CID, LAST_PORT, LISTENERS}
 use Rattle.laws_history.specs.declared.packet.Packet.{Packet}
@@ -12,14 +13,14 @@ use Rattle.vs_replies.specs.Owed.{reply_to}
 use Rattle.laws_tables.proofs.Slots.{found_by}
 use Rattle.vs_ring_port.specs.{Contents.RingContents, EndLog.EndLog}
 use Rattle.vs_wrap.specs.Wrap.{counted}
-use Rattle.vs_driver_parts.specs.Connections.{after_close, after_leaving, after_read, after_recv, after_grow, after_shutdown, all_gone_after_read, connected, entry_closed}
+use Rattle.vs_driver_parts.specs.Connections.{after_close, after_leaving, after_recv, after_grow, after_shutdown, all_gone_after_read, connected, entry_closed}
 use Rattle.vs_driver_parts.specs.Connections.{entry_grow_answer, entry_read, flow_of, grown_by, is_full, is_spent, shut_in, state_of, waits_no_more, with_connection, with_request}
 use Rattle.vs_driver_parts.specs.{Connections.without_gone, Conversations.{DriverTree, after_paying, connect_of, connect_with_page, has_page, new_of, no_credit, not_sent, poll_of}}
 use Rattle.vs_driver_parts.specs.{Conversations.{post_packet, reap_all, request_bytes, send_stopped}, Listening.{accept_of, is_answered, listener_on, listening, next_accepted}}
 use Rattle.vs_driver_parts.specs.{Listening.{with_port, with_waiting, without_id}, Playing.{Plays, RingAllows}, Receiving.{after_packet, after_verdict, all_left, ends_connection}}
 use Rattle.vs_driver_parts.specs.{Receiving.{is_request, may_open, on_heard, on_known, on_packet, on_unknown, reset_reply, with_reply}, State.{DriverEntry, DriverState}}
 use Rattle.vs_driver_parts.specs.{State.{GoneConnection, Listener, entry_known_as, gone_known_as, is_known_as}, declared.answers.{Accepted.Accepted, ConnectError.ConnectError}}
-use Rattle.vs_driver_parts.specs.declared.answers.{Grown.Grown, ListenError.ListenError, Polled.Polled, Sent.Sent}
+use Rattle.vs_driver_parts.specs.declared.answers.{ListenError.ListenError, Polled.Polled, Sent.Sent}
 use Rattle.laws_tables.specs.Steps.{is_kept}
 use Rattle.vs_driver_parts.specs.Connections.{keeping}
 use Rattle.laws_driver.specs.{Honest.{IsFresh, IsHonestWith}, Carried.Calls.{Accept, Close, Connect, Grow, GuestCall, Journal, Listen, LookAt, Made, Recv, ReplyTo, Send, Shutdown}}
@@ -139,13 +140,7 @@ module _ (i : ℕ) where
       by (Some l) some = none_left l.waiting some
 
   fewer_behind : (n : ℕ) → (n == i) ≡ false → (ws : List ℕ) → list_any (λ w. w == i) (ws ++ n ∷ []) ≡ true → list_any (λ w. w == i) ws ≡ true
-  fewer_behind n other [] is = absurd (let no : true ≡ false = sym is ∙ ap (λ (b : Bool). b || false) other in cc)
-  fewer_behind n other (w ∷ ws) is = by (w == i) is (fewer_behind n other ws)
-    where
-      by : (b : Bool) → (b || list_any (λ v. v == i) (ws ++ n ∷ [])) ≡ true
-          → (list_any (λ v. v == i) (ws ++ n ∷ []) ≡ true → list_any (λ v. v == i) ws ≡ true) → (b || list_any (λ v. v == i) ws) ≡ true
-      by true so rest = refl
-      by false so rest = rest so
+  fewer_behind n other ws is = grind (arith, common_steps)
 
   -- Where another port is listened on nobody waits there.
   before_listen : (p q : ℕ) (ls : List Listener) → waits_at p i (with_port q ls) ≡ true → waits_at p i ls ≡ true
@@ -259,34 +254,14 @@ module _ (journal : Journal) (next : ℕ) (ls : List Listener) (x : AreGiven jou
 
   -- An id is given: the next, or one that waits.
   module _ (m : Made) (id : ℕ) (gives : given_by m.call m.reply ≡ Some id) where
-    now : (i : ℕ) → was_given i (m ∷ journal) ≡ ((i == id) || was_given i journal)
-    now i = ap (λ (o : Option ℕ). names i o || was_given i journal) gives
-
     below : (more i : ℕ) → id < more → next ≤ more → was_given i (m ∷ journal) ≡ true → i < more
-    below more i less most is = by (i == id) refl (sym (now i) ∙ is)
-      where
-        by : (b : Bool) → (i == id) ≡ b → (b || was_given i journal) ≡ true → i < more
-        by true same so = let own = eqb-true i id same in omega (arith, own, less)
-        by false other so = let under = x.given i so in omega (arith, under, most)
+    below more i less most is = grind (arith, common_steps)
 
     still_waits : (i : ℕ) → (i ≡ id → ⊥) → was_given i journal ≡ false → was_given i (m ∷ journal) ≡ false
-    still_waits i apart none = by (i == id) refl
-      where
-        by : (b : Bool) → (i == id) ≡ b → was_given i (m ∷ journal) ≡ false
-        by true same = absurd (apart (eqb-true i id same))
-        by false other = now i ∙ ap (λ (b : Bool). b || was_given i journal) other ∙ none
+    still_waits i apart none = grind (arith, common_steps)
 
   connects_given : (port : ℕ) → AreGiven (made_as (Connect port) (Ok next) ∷ journal) (next + 1) ls
-  connects_given port = record {
-    given = λ i is. below (made_as (Connect port) (Ok next)) next refl (next + 1) i (omega arith) (omega arith) is;
-    waits = λ p i is. let w = x.waits p i is in let less = w.0 in (
-      omega (arith, less),
-      still_waits (made_as (Connect port) (Ok next)) next refl i (λ same. absurd (omega (arith, less, same))) w.1,
-    );
-    one = x.one;
-    heard = x.heard;
-    all = (not_given next refl (was_given next journal) refl, x.all);
-  }
+  connects_given port = grind (arith, common_steps)
 
   accepts_given : (port id : ℕ) → waits_at port id ls ≡ true
       → AreGiven (made_as (Accept port) (accepted.Conn id) ∷ journal) next (with_waiting port (without_id id) ls)
@@ -318,11 +293,7 @@ module _ (journal : Journal) (next : ℕ) (ls : List Listener) (x : AreGiven jou
 
   -- It is listened on already.
   heard_given : (port : ℕ) → is_some (listener_on port ls) ≡ true → AreGiven (made_as (Listen port) (Err unheard.Taken) ∷ journal) next ls
-  heard_given port there = record { given = x.given; waits = x.waits; one = x.one; heard = λ p is. by p (p == port) refl is; all = (tt, x.all) }
-    where
-      by : (p : ℕ) (b : Bool) → (p == port) ≡ b → (b || is_heard p journal) ≡ true → is_some (listener_on p ls) ≡ true
-      by p true same so = subst (λ (n : ℕ). is_some (listener_on n ls) ≡ true) (sym (eqb-true p port same)) there
-      by p false other so = x.heard p so
+  heard_given port there = grind (arith, common_steps)
 
 -- A poll.
 module _ (journal : Journal) where
@@ -380,9 +351,7 @@ gives_after journal call reply part s log = IsSo call reply → AreGiven (noted 
 
 module _ (journal : Journal) where
   refusal : (port : ℕ) (why : ConnectError) (s : DriverState) → At journal s → ConnectTells port (Err why) [] → AreGiven (noted (Connect port) (Err why) journal) s.next_id s.listeners
-  refusal port (refused.BadPort p) s x is = silent journal s.next_id s.listeners x (Connect port) (Err (refused.BadPort p)) refl refl is
-  refusal port (refused.BadCid cid) s x is = absurd is
-  refusal port why s x is = silent journal s.next_id s.listeners x (Connect port) (Err why) refl refl tt
+  refusal port why s x is = grind (arith, common_steps)
 
   unsent : (id : ℕ) (bytes : List ℕ) (answer : Sent) (s : DriverState) → At journal s → AreGiven (noted (Send id bytes) answer journal) s.next_id s.listeners
   unsent id bytes answer s x = silent journal s.next_id s.listeners x (Send id bytes) answer refl refl tt
@@ -422,30 +391,15 @@ module _ (journal : Journal) where
 
 received_same : (journal : Journal) (n id : ℕ) (s : DriverState) (o : Option DriverEntry) → At journal s
     → At journal (elim o as (λ _. DriverState) [ Some e ↦ entry_read n e s | None ↦ record s { gone = all_gone_after_read id n s.gone } ])
-received_same journal n id s None x = x
-received_same journal n id s (Some e) x = by (length e.value.unread == 0)
-  where
-    by : (b : Bool) → At journal (cond b s (with_connection e.slot (after_read n e.value) s))
-    by true = x
-    by false = x
+received_same journal n id s o x = grind (arith, common_steps)
 
 shut_same : (journal : Journal) (bits : ℕ) (s : DriverState) (o : Option DriverEntry) → At journal s
     → At journal (elim o as (λ _. DriverState) [ Some e ↦ shut_in e.value.end.state bits e s | None ↦ s ])
-shut_same journal bits s None x = x
-shut_same journal bits s (Some e) x = by e.value.end.state
-  where
-    by : (st : State) → At journal (shut_in st bits e s)
-    by state.Live = x
-    by st = x
+shut_same journal bits s o x = grind (arith, common_steps)
 
 grown_same : (journal : Journal) (alloc : ℕ) (s : DriverState) (o : Option DriverEntry) → At journal s
     → At journal (elim o as (λ _. DriverState) [ Some e ↦ grown_by (entry_grow_answer alloc e) alloc e s | None ↦ s ])
-grown_same journal alloc s None x = x
-grown_same journal alloc s (Some e) x = by (entry_grow_answer alloc e)
-  where
-    by : (a : Grown) → At journal (grown_by a alloc e s)
-    by rise.Done = x
-    by a = x
+grown_same journal alloc s o x = grind (arith, common_steps)
 
 closed_less : (journal : Journal) (id : ℕ) (s : DriverState) (o : Option DriverEntry) (q : Option GoneConnection) → At journal s
     → At journal (elim o as (λ _. DriverState) [
@@ -492,9 +446,7 @@ module _ (journal : Journal) (s : DriverState) (placed : ArePlaced journal s) (x
     (is : accept_of port s ≡ accepted.Conn id) where
   next_is : (b : Bool) (o : Option ℕ) → cond b (elim o as (λ _. Accepted) [ None ↦ accepted.None | Some i ↦ accepted.Conn i ]) accepted.NotListening ≡ accepted.Conn id
       → o ≡ Some id
-  next_is true (Some i) at = let same : i ≡ id = cc in ap (λ (n : ℕ). let o : Option ℕ = Some n in o) same
-  next_is true None at = absurd cc
-  next_is false o at = absurd cc
+  next_is b o at = grind (arith, common_steps)
 
   found_on : (o : Option Listener) → elim o as (λ _. Option ℕ) [ None ↦ None | Some l ↦ find (is_answered s) l.waiting ] ≡ Some id
       → (waits_in id o ≡ true) × (is_answered s id ≡ true)

@@ -1,8 +1,8 @@
 -- What a journal tells of the driver's connections, through each change of them.
-use Rattle.std.proofs.Common.{◌≡◌, ◌≤◌, ◌⊎◌, inl, inr, ℕ, zero, suc, ◌+◌, ◌==◌, ◌&&◌, ◌||◌, Bool, true, false, not, cond, List, [], ◌∷◌, ◌++◌, filter, drop, map, Contains, get_or}
+use Rattle.std.proofs.Common.{◌≡◌, ◌≤◌, ◌⊎◌, inl, inr, ℕ, ◌+◌, ◌==◌, ◌&&◌, Bool, true, false, not, cond, List, [], ◌∷◌, ◌++◌, filter, map, Contains, get_or}
 use Rattle.std.proofs.{Common.{Option, Some, None, refl, sym, ap, ◌∙◌, arith}, lemmas.{Grind.common_steps, List.Elements.{All-contains, All-filter, All-map, All-push}}}
 use Rattle.std.{proofs.lemmas.List.Elements.Contains-get_or, specs.List.All}
-use Rattle.vs_conn.specs.{End.{ConnectionEnd, aborted, end_after, is_reset, owes_of, paid_of, verdict_of, with_payload_forwarded, with_shut}, Shut.shut_of, declared.end.Owed.Owed}
+use Rattle.vs_conn.specs.{End.{ConnectionEnd, aborted, end_after, is_reset, owes_of, paid_of, verdict_of}, declared.end.Owed.Owed}
 use Rattle.vs_conn.{specs.declared.end.{Verdict.Verdict, State.TheVariants.Ended}, proofs.Frames.{got_over, got_own, paid_over, paid_own, paid_peer}}
 use Rattle.vs_flow.specs.{CleanPairs.of_host, Table.{entry_of, revalued}}
 use Rattle.vs_header.specs.declared.Header.{Header}
@@ -17,9 +17,9 @@ use Rattle.laws_tables.proofs.Slots.{found_by}
 use Rattle.laws_tables.specs.Steps.{is_kept}
 use Rattle.vs_driver_parts.specs.Connections.{keeping}
 use Rattle.laws_driver.proofs.Sighting.{Small, poll_sees}
-use Rattle.laws_driver.{proofs.Carrying.{Carries, Fact}, specs.Carried.Calls.{Journal, Made, Connect, Listen, Unlisten, Accept, Send, Recv, Shutdown, Grow, Close, LookAt}}
+use Rattle.laws_driver.{proofs.Carrying.{Carries, Fact}, specs.Carried.Calls.{Journal, Made}}
 use Rattle.vs_apps_parts.specs.Told.{told_of}
-use Rattle.laws_apps.specs.Traces.{AllTell, AtId, IsClosing, IsDrained, IsStopped, IsTraced, TellsOf, is_shut, is_touched}
+use Rattle.laws_apps.specs.Traces.{AllTell, AtId, IsClosing, IsTraced, TellsOf, is_shut, is_touched}
 use Rattle.vs_conn.specs.declared.end.Owed.TheVariants as owed
 use Rattle.vs_conn.specs.declared.end.Verdict.TheVariants as verdict
 
@@ -34,14 +34,6 @@ pub record IsLater (c : DriverConnection) (end : ConnectionEnd) (unread : List �
 -- What lasts then.
 abbrev pub Lasts : (DriverConnection → Type 0) → Type 0
 Lasts P = (c d : DriverConnection) → IsLater c d.end d.unread → P c → P d
-
-pub stopped_lasts : Lasts IsStopped
-stopped_lasts c d later (inl over) = inl (later.over over)
-stopped_lasts c d later (inr peer) = inr (later.peer_receives peer)
-
-pub drained_lasts : Lasts IsDrained
-drained_lasts c d later (inl over) = inl (later.over over)
-drained_lasts c d later (inr none) = later.drained none.0 none.1
 
 pub closing_lasts : Lasts IsClosing
 closing_lasts c d later (inl over) = inl (later.over over)
@@ -60,40 +52,14 @@ abbrev pub Came : Journal → ℕ → List DriverEntry → DriverEntry → Type 
 Came by next es d = Comes by es d.value ⊎ ((next ≤ d.value.id) × (is_touched d.value ≡ false))
 
 closed_touched : (c : DriverConnection) → c.closed ≡ true → is_touched c ≡ true
-closed_touched c is = by c.end.own.send c.end.own.receive
-  where
-    by : (a b : Bool) → (a || (b || c.closed)) ≡ true
-    by true b = refl
-    by false true = refl
-    by false false = is
+closed_touched c is = grind (arith, common_steps)
 
 module _ (by : Journal) (next then : ℕ) (es fs : List DriverEntry) (more : next ≤ then) (came : All (Came by next es) fs) where
   pub at_id : (P : DriverConnection → Type 0) → Lasts P → (id : ℕ) → AtId P id next es → AtId P id then fs
-  at_id P lasts id at = (let less = at.0 in omega (arith, less, more), λ k d less is. from (get_or fs k d) (came k d less) is)
-    where
-      from : (d : DriverEntry) → Came by next es d → d.value.id ≡ id → P d.value
-      from d (inl c) is = lasts c.entry.value d.value c.later (All-contains (λ e. e.value.id ≡ id → P e.value) es c.entry at.1 c.within (sym c.id_is ∙ is))
-      from d (inr new) is = let above = new.0 in let less = at.0 in absurd (omega (arith, above, less, is))
-
-  either : (P : DriverConnection → Type 0) → Lasts P → (id : ℕ) (older : Journal) → (is_shut id older ≡ true) ⊎ AtId P id next es
-      → (is_shut id older ≡ true) ⊎ AtId P id then fs
-  either P lasts id older (inl shut) = inl shut
-  either P lasts id older (inr at) = inr (at_id P lasts id at)
+  at_id P lasts id at = grind (arith, common_steps)
 
   pub tells_still : (m : Made) (older : Journal) → TellsOf m.call (told_of m) older next es → TellsOf m.call (told_of m) older then fs
-  tells_still m older tells = by_call m.call (told_of m) tells
-    where
-      by_call : (call : _) (t : _) → TellsOf call t older next es → TellsOf call t older then fs
-      by_call (Send id bytes) t tells = (λ ends. either IsStopped stopped_lasts id older (tells.0 ends), tells.1)
-      by_call (Recv id n) t tells = λ ends. either IsDrained drained_lasts id older (tells ends)
-      by_call (Close id) t tells = at_id IsClosing closing_lasts id tells
-      by_call (Connect port) t tells = tt
-      by_call (Listen port) t tells = tt
-      by_call (Unlisten port) t tells = tt
-      by_call (Accept port) t tells = tt
-      by_call (Shutdown id bits) t tells = tt
-      by_call (Grow id alloc) t tells = tt
-      by_call (LookAt id) t tells = tt
+  tells_still m older tells = grind (arith, common_steps)
 
   tell_still : (j : Journal) → AllTell j next es → AllTell j then fs
   tell_still [] all = tt
@@ -125,13 +91,7 @@ module _ (by : Journal) (next then : ℕ) (es fs : List DriverEntry) (more : nex
 
 -- The changes of a table.
 pub same_later : (c : DriverConnection) → IsLater c c.end c.unread
-same_later c = record {
-  over = λ is. is;
-  shut_send = λ is. is;
-  shut_receive = λ is. is;
-  peer_receives = λ is. is;
-  drained = λ peer none. inr (peer, none);
-}
+same_later c = grind (arith, common_steps)
 
 module _ (by : Journal) (next : ℕ) (es : List DriverEntry) where
   stays : (e : DriverEntry) → Contains es e → Came by next es e
@@ -159,25 +119,12 @@ module _ (by : Journal) (next : ℕ) (es : List DriverEntry) where
 -- A change that the guest didn't decide.
 pub comes_as : (by : Journal) (es : List DriverEntry) (e : DriverEntry) (c : DriverConnection) → Contains es e → c.id ≡ e.value.id
     → c.end.own ≡ e.value.end.own → c.closed ≡ e.value.closed → IsLater e.value c.end c.unread → Comes by es c
-comes_as by es e c within id own closed later = record {
-  entry = e;
-  within = within;
-  id_is = id;
-  later = later;
-  touched = λ is. inl (ap (λ o. o.send || (o.receive || e.value.closed)) (sym own) ∙ ap (λ (b : Bool). c.end.own.send || (c.end.own.receive || b)) (sym closed) ∙ is);
-  closed = λ is. inl (sym closed ∙ is);
-}
+comes_as by es e c within id own closed later = grind (arith, common_steps)
 
 -- What an end does.
 pub end_later : (c : DriverConnection) (e : ConnectionEnd) → (c.end.state ≡ Ended → e.state ≡ Ended) → e.own ≡ c.end.own → e.peer ≡ c.end.peer
     → IsLater c e c.unread
-end_later c e over own peer = record {
-  over = over;
-  shut_send = λ is. ap (λ o. o.send) own ∙ is;
-  shut_receive = λ is. ap (λ o. o.receive) own ∙ is;
-  peer_receives = λ is. ap (λ o. o.receive) peer ∙ is;
-  drained = λ sends none. inr (ap (λ o. o.send) peer ∙ sends, none);
-}
+end_later c e over own peer = grind (arith, common_steps)
 
 got_receives : (e : ConnectionEnd) (h : Header) → e.peer.receive ≡ true → (end_after e h).peer.receive ≡ true
 got_receives e h is = grind (arith, common_steps, is)
@@ -187,12 +134,6 @@ got_sends e h is = grind (arith, common_steps, is)
 
 not_delivered : (e : ConnectionEnd) (h : Header) → e.peer.send ≡ true → verdict_of e h ≡ verdict.Deliver → ⊥
 not_delivered e h is delivers = grind (arith, common_steps, is, delivers)
-
-forwarded_over : (e : ConnectionEnd) (n : ℕ) → e.state ≡ Ended → (with_payload_forwarded e n).state ≡ Ended
-forwarded_over e n over = grind (arith, common_steps, over)
-
-shut_over : (e : ConnectionEnd) (bits : ℕ) → e.state ≡ Ended → (with_shut e bits).state ≡ Ended
-shut_over e bits over = grind (arith, common_steps, over)
 
 packet_later : (v : Verdict) (p : Packet) (c : DriverConnection) → verdict_of c.end p.header ≡ v → IsLater c (after_packet v p c).end (after_packet v p c).unread
 packet_later verdict.Deliver p c is = record {
@@ -217,30 +158,10 @@ packet_comes by es e verdict.Deliver p within is =
 packet_comes by es e v p within is = comes_as by es e (after_packet v p e.value) within refl (got_own e.value.end p.header) refl (packet_later v p e.value is)
 
 pub read_later : (n : ℕ) (c : DriverConnection) → IsLater c (after_read n c).end (after_read n c).unread
-read_later n c = record {
-  over = forwarded_over c.end _;
-  shut_send = λ is. is;
-  shut_receive = λ is. is;
-  peer_receives = λ is. is;
-  drained = λ sends none. inr (sends, ap (drop n) none ∙ nothing n);
-}
-  where
-    nothing : (m : ℕ) → let none : List ℕ = [] in drop m none ≡ none
-    nothing zero = refl
-    nothing (suc m) = refl
+read_later n c = grind (arith, common_steps)
 
 pub shut_later : (bits : ℕ) (c : DriverConnection) → IsLater c (after_shut bits c).end (after_shut bits c).unread
-shut_later bits c = record {
-  over = shut_over c.end bits;
-  shut_send = λ is. ap (λ (b : Bool). b || (shut_of bits).send) is;
-  shut_receive = λ is. ap (λ (b : Bool). b || (shut_of bits).receive) is;
-  peer_receives = λ is. is;
-  drained = λ sends none. inr (sends, by (with_shut c.end bits).own.receive none);
-}
-  where
-    by : (b : Bool) → c.unread ≡ [] → cond b [] c.unread ≡ []
-    by true none = refl
-    by false none = none
+shut_later bits c = grind (arith, common_steps)
 
 pub abort_later : (c : DriverConnection) → IsLater c (aborted c.end) c.unread
 abort_later c = record { over = λ is. refl; shut_send = λ is. is; shut_receive = λ is. is; peer_receives = λ is. is; drained = λ sends none. inl refl }

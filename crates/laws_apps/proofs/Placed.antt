@@ -1,10 +1,9 @@
 -- What each change of the driver's connections and listeners leaves of what a journal's calls left.
-use Rattle.std.proofs.Common.{◌≡◌, ◌≢◌, ℕ, zero, suc, ◌+◌, ◌<◌, ◌≤◌, ◌==◌, ◌||◌, ◌&&◌, not, Bool, true, false, cond, List, [], ◌∷◌, ◌++◌, length, drop, get_or, Option, Some, None}
+use Rattle.std.proofs.Common.{◌≡◌, ◌≢◌, ℕ, zero, suc, ◌+◌, ◌<◌, ◌≤◌, ◌==◌, ◌||◌, not, Bool, true, false, cond, List, [], ◌∷◌, ◌++◌, length, drop, get_or, Option, Some, None}
 use Rattle.std.proofs.{Common.{is_some, refl, sym, ap, subst, ◌∙◌, arith}, lemmas.{Bool.{Decides.nat_tests, eq-eqb, eqb-true}, Grind.common_steps, List.Elements.All-cons}}
 use Rattle.std.{proofs.lemmas.List.Elements.{All-contains, All-filter, All-head, All-map, All-push, All-tail, filter_passes}, specs.List.{All, filter, list_any}}
 use Rattle.std.specs.Option.{option_map_or}
-use Rattle.vs_conn.specs.{End.{ConnectionEnd, end_after, owes_of, with_payload_forwarded, with_shut}, declared.end.{Owed.Owed, State.{State, TheVariants.{Answering, Asked}}}}
-use Rattle.vs_conn.{specs.declared.{end.State.TheVariants.{Ended, Live}, shut.Shut.Shut}, proofs.Frames.{got_asked, got_answering, got_over, got_own}}
+use Rattle.vs_conn.specs.{End.{ConnectionEnd, end_after, owes_of, with_payload_forwarded, with_shut}, declared.end.{Owed.Owed, State.{State, TheVariants.{Answering}}}}
 use Rattle.vs_flow.specs.{Flow.host_asks, Table.{IsTable, Table, next_entry, revalued, with_entry, with_value, without}, declared.flow.Flow.Flow}
 use Rattle.vs_header.specs.declared.Header.{Header}
 use Rattle.vs_driver_parts.specs.Connections.{after_leaving, all_gone_after_read, gone_after_read, gone_as, paid_connection, waits_no_more, with_connection}
@@ -26,19 +25,11 @@ or_second true b is = refl
 or_second false b is = is
 
 pub one_of : (a b c : Bool) (P : Type 0) → (a || (b || c)) ≡ true → (a ≡ true → P) → (b ≡ true → P) → (c ≡ true → P) → P
-one_of true b c P is first second third = first refl
-one_of false true c P is first second third = second refl
-one_of false false c P is first second third = third is
+one_of a b c P is first second third = grind (arith, common_steps)
 
 -- Who waits on a port, when the listeners change.
 pub stays_behind : (id x : ℕ) (ws : List ℕ) → list_any (λ w. w == id) ws ≡ true → list_any (λ w. w == id) (ws ++ x ∷ []) ≡ true
-stays_behind id x [] is = absurd cc
-stays_behind id x (w ∷ ws) is = by (w == id) is (stays_behind id x ws)
-  where
-    by : (b : Bool) → (b || list_any (λ v. v == id) ws) ≡ true → (list_any (λ v. v == id) ws ≡ true → list_any (λ v. v == id) (ws ++ x ∷ []) ≡ true)
-        → (b || list_any (λ v. v == id) (ws ++ x ∷ [])) ≡ true
-    by true is rest = refl
-    by false is rest = rest is
+stays_behind id x ws is = grind (arith, common_steps)
 
 comes_last : (id : ℕ) (ws : List ℕ) → list_any (λ w. w == id) (ws ++ id ∷ []) ≡ true
 comes_last id [] = ap (λ (b : Bool). b || false) (eq-eqb id id refl)
@@ -121,48 +112,15 @@ pub placed_on : (journal now : Journal) (ls ms : List Listener) (id : ℕ) (f : 
     → (was_closed id journal ≡ true → (was_given id now || was_closed id now) ≡ true)
     → (waits_at f.guest id ls ≡ true → (was_given id now || (was_closed id now || waits_at f.guest id ms)) ≡ true)
     → IsPlaced journal ls id f → IsPlaced now ms id f
-placed_on journal now ls ms id f given closed waits placed = record {
-  known = one_of (was_given id journal) (was_closed id journal) (waits_at f.guest id ls) _ placed.known
-      (λ is. or_first (was_given id now) _ (given is)) (λ is. both (was_given id now) (was_closed id now) (closed is)) waits;
-  own = λ mine. given (placed.own mine);
-}
-  where
-    both : (a b : Bool) → (a || b) ≡ true → (a || (b || waits_at f.guest id ms)) ≡ true
-    both true b is = refl
-    both false true is = refl
-    both false false is = absurd cc
+placed_on journal now ls ms id f given closed waits placed = grind (arith, common_steps)
 
 -- What an end's steps leave.
 pub record StandsOn (e d : ConnectionEnd) : Type 0 where
   pub closed : stands_closed e.state e.own ≡ true → stands_closed d.state d.own ≡ true
   pub unanswered : stands_unanswered e.state ≡ true → stands_unanswered d.state ≡ true
 
-got_live : (e : ConnectionEnd) (h : Header) → e.state ≡ Answering → (end_after e h).state ≢ Live
-got_live e h is live = absurd (grind (arith, common_steps, is, live))
-
 pub got_stands : (e : ConnectionEnd) (h : Header) → StandsOn e (end_after e h)
-got_stands e h = record { closed = closes e.state (end_after e h).state refl refl; unanswered = answers e.state (end_after e h).state refl refl }
-  where
-    closes : (a b : State) → e.state ≡ a → (end_after e h).state ≡ b → stands_closed a e.own ≡ true → stands_closed b (end_after e h).own ≡ true
-    closes a Ended was now is = refl
-    closes Live Live was now is = ap (λ (s : Shut). s.send && s.receive) (got_own e h) ∙ is
-    closes Live Asked was now is = let no : Live ≡ Asked = sym was ∙ got_asked e h now in absurd cc
-    closes Live Answering was now is = let no : Live ≡ Answering = sym was ∙ got_answering e h now in absurd cc
-    closes Ended Live was now is = let no : Ended ≡ Live = sym (got_over e h was) ∙ now in absurd cc
-    closes Ended Asked was now is = let no : Ended ≡ Asked = sym (got_over e h was) ∙ now in absurd cc
-    closes Ended Answering was now is = let no : Ended ≡ Answering = sym (got_over e h was) ∙ now in absurd cc
-    closes Asked b was now is = absurd cc
-    closes Answering b was now is = absurd cc
-
-    answers : (a b : State) → e.state ≡ a → (end_after e h).state ≡ b → stands_unanswered a ≡ true → stands_unanswered b ≡ true
-    answers a Ended was now is = refl
-    answers a Answering was now is = refl
-    answers Answering Live was now is = absurd (got_live e h was now)
-    answers Answering Asked was now is = let no : Answering ≡ Asked = sym was ∙ got_asked e h now in absurd cc
-    answers Ended Live was now is = let no : Ended ≡ Live = sym (got_over e h was) ∙ now in absurd cc
-    answers Ended Asked was now is = let no : Ended ≡ Asked = sym (got_over e h was) ∙ now in absurd cc
-    answers Live b was now is = absurd cc
-    answers Asked b was now is = absurd cc
+got_stands e h = grind (arith, common_steps)
 
 forwarded_closed : (e : ConnectionEnd) (n : ℕ) → stands_closed e.state e.own ≡ true → stands_closed (with_payload_forwarded e n).state (with_payload_forwarded e n).own ≡ true
 forwarded_closed e n is = grind (arith, common_steps, is)
@@ -185,11 +143,7 @@ shut_stands e bits = record { closed = shut_closed e bits; unanswered = shut_una
 -- A connection with another end.
 pub value_goes : (journal : Journal) (c d : DriverConnection) → d.id ≡ c.id → d.closed ≡ c.closed → d.unanswered ≡ c.unanswered → StandsOn c.end d.end
     → IsPlacedValue journal c → IsPlacedValue journal d
-value_goes journal c d id closed unanswered stands value = record {
-  closed = closed ∙ value.closed ∙ ap (λ (i : ℕ). was_closed i journal) (sym id);
-  shut = λ is. stands.closed (value.shut (sym closed ∙ is));
-  waits = λ is. stands.unanswered (value.waits (sym unanswered ∙ is));
-}
+value_goes journal c d id closed unanswered stands value = grind (arith, common_steps)
 
 -- What a connection owes is put.
 owes_response : (e : ConnectionEnd) → owes_of e ≡ Some owed.Response → e.state ≡ Answering
@@ -348,23 +302,13 @@ module _ (journal : Journal) (m : Made) (s : DriverState) (x : ArePlaced journal
     now i = ap (λ (o : Option ℕ). names i o || was_closed i journal) found
 
     still : (i : ℕ) → i ≢ id → was_closed i journal ≡ was_closed i (m ∷ journal)
-    still i apart = by (i == id) refl ∙ sym (now i)
-      where
-        by : (b : Bool) → (i == id) ≡ b → was_closed i journal ≡ (b || was_closed i journal)
-        by false is = refl
-        by true is = absurd (apart (eqb-true i id is))
+    still i apart = grind (arith, common_steps)
 
     one : (i : ℕ) (f : Flow) → IsPlaced journal s.listeners i f → IsPlaced (m ∷ journal) s.listeners i f
-    one i f placed = placed_on journal (m ∷ journal) s.listeners s.listeners i f (or_second (names i (given_by m.call m.reply)) _)
-        (λ is. or_second (was_given i (m ∷ journal)) _ (or_second (names i (closed_by m.call m.reply)) _ is))
-        (λ is. or_second (was_given i (m ∷ journal)) _ (or_second (was_closed i (m ∷ journal)) _ is)) placed
+    one i f placed = grind (arith, common_steps)
 
     was_below : (i : ℕ) → was_closed i (m ∷ journal) ≡ true → i < s.next_id
-    was_below i is = by (i == id) refl (sym (now i) ∙ is)
-      where
-        by : (b : Bool) → (i == id) ≡ b → (b || was_closed i journal) ≡ true → i < s.next_id
-        by true same so = subst (λ (n : ℕ). n < s.next_id) (sym (eqb-true i id same)) less
-        by false other so = x.below i so
+    was_below i is = grind (arith, common_steps)
 
     pub closes : (t : Table DriverConnection) → AreNumbered 1 s.next_port s.next_id t s.gone → All (IsPlacedEntry (m ∷ journal) s.listeners) t.entries
         → HasPlaces (m ∷ journal) s.next_port s.next_id t s.gone s.listeners
@@ -437,11 +381,7 @@ module _ (journal : Journal) (s : DriverState) (x : ArePlaced journal s) (f : Fl
 
 -- Bytes of one that is gone are read; and one that is gone is closed.
 read_one : (id n : ℕ) (g : GoneConnection) → ((gone_after_read id n g).id ≡ g.id) × ((gone_after_read id n g).flow ≡ g.flow)
-read_one id n g = by (g.id == id)
-  where
-    by : (b : Bool) → let h : GoneConnection = cond b (record g { unread = drop n g.unread }) g in (h.id ≡ g.id) × (h.flow ≡ g.flow)
-    by true = (refl, refl)
-    by false = (refl, refl)
+read_one id n g = grind (arith, common_steps)
 
 read_at : (id n : ℕ) (gone : List GoneConnection) (k : ℕ) (d : GoneConnection) → k < length (all_gone_after_read id n gone)
     → (k < length gone) × (get_or (all_gone_after_read id n gone) k d ≡ gone_after_read id n (get_or gone k d))
