@@ -1,4 +1,5 @@
 -- Calls and polls keep the account.
+use Rattle.std.proofs.lemmas.Grind.{common_steps}
 use Rattle.std.proofs.{Common.{◌≡◌, ◌<◌, ◌^◌, ℕ, nat_lt, true, arith, List, [], ◌∷◌, ◌++◌, Some, refl, sym, subst, ◌∙◌}, lemmas.Bool.Decides.nat_tests}
 use Rattle.vs_ring_port.specs.{Contents.RingContents, EndLog.EndLog}
 use Rattle.vs_driver_parts.specs.{Conversations.poll_of, Playing.Plays, State.DriverState, declared.answers.Polled.Polled}
@@ -83,6 +84,4 @@ entry_accounted first_id k journal entries c s ring has accounted = λ on l is.
 pub told_accounted : (first_id : ℕ) (journal : Journal) (old new : List Entry) (s : DriverState) (ring : RingContents)
     → ((opened : ℕ → Connection) → TellFlows opened old → TellFlows opened new) → IsAccounted first_id journal old s ring
     → IsAccounted first_id journal new s ring
-told_accounted first_id journal old new s ring tell accounted = λ on l is.
-    let was = accounted on l is in
-    (was.0, record { right = was.1.right; flows = tell was.0 was.1.flows })
+told_accounted first_id journal old new s ring tell accounted = grind (arith, common_steps)

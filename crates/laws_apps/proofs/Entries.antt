@@ -1,14 +1,16 @@
 -- What an entry more, a wait more and bytes more do to what a journal tells.
+use Rattle.std.proofs.Common.{arith}
+use Rattle.std.proofs.lemmas.Grind.{common_steps}
 use Rattle.std.proofs.Common.{◌≡◌, ℕ, zero, suc, ◌<◌, ◌≤◌, ◌==◌, Bool, true, false, cond, List, [], ◌∷◌, ◌++◌, length, Option, Some, None, refl, sym, ap, ◌∙◌}
 use Rattle.std.{proofs.{Common.{append_assoc, append-nil, slice_set, subst}}, specs.Prelude.slice_get}
 use Rattle.vs_driver_parts.specs.Connections.{got_count}
-use Rattle.laws_driver.specs.Carried.Calls.{Journal, Made}
-use Rattle.vs_apps_parts.specs.Journals.{AllStandIn, StandsIn, calls_of, calls_of_app, ends_at, entry_called, entry_waited, gathered, made_as, made_by, made_by_app, made_of}
+use Rattle.laws_driver.specs.Carried.Calls.{Journal}
+use Rattle.vs_apps_parts.specs.Journals.{AllStandIn, StandsIn, calls_of, calls_of_app, ends_at, entry_called, entry_waited, gathered, made_by, made_by_app}
 use Rattle.vs_apps_parts.specs.{Journals.{one_more, times_in, wait_noted}, Scripts.{RunScript}, declared.journal.{Called.Called, Deed.Deed}}
 use Rattle.vs_apps_parts.{specs.declared.journal.{Entry.Entry, WaitsFor.WaitsFor}, proofs.Entries.{slice_stays, stand_set, stand_snoc, wait_as}}
 use Rattle.vs_flow.specs.Connection.{Connection}
 use Rattle.laws_apps.{specs.{Accounts.TellFlows, Placed.{AreOwned, IsOwned, NamesFlow}}, proofs.Opening.{flows_set, flows_snoc}}
-use Rattle.laws_apps.specs.Ports.{ArePortsFrom, IsPort, next_port, port_behind, port_called, port_of}
+use Rattle.laws_apps.specs.Ports.{ArePortsFrom, IsPort, next_port, port_behind, port_of}
 use Rattle.laws_driver.specs.Carried.Calls as call
 use Rattle.vs_apps_parts.specs.declared.journal.Called.TheVariants as called
 use Rattle.vs_apps_parts.specs.declared.journal.Deed.TheVariants as deed
@@ -30,21 +32,9 @@ gathered_set made (x ∷ es) zero e new at same =
     let is : x ≡ e = cc in ap (λ (js : Journal). gathered made es ++ js) (same ∙ ap made (sym is))
 gathered_set made (x ∷ es) (suc place) e new at same = ap (λ (js : Journal). js ++ made x) (gathered_set made es place e new at same)
 
-made_stays : (script : RunScript) (bytes more : List ℕ) (k : ℕ) (c : Called) → ends_at c ≤ length bytes
-    → made_of script (bytes ++ more) k c ≡ made_of script bytes k c
-made_stays script bytes more k (called.Recv id len from answer) within =
-    ap (λ (xs : List ℕ). made_as (call.Recv id len) (answer, xs)) (slice_stays from (got_count answer) bytes more within)
-made_stays script bytes more k c within = refl
-
 entry_stays : (script : RunScript) (bytes more : List ℕ) (e : Entry) → StandsIn (length bytes) e
     → made_by script (bytes ++ more) e ≡ made_by script bytes e
-entry_stays script bytes more e stands = by e.deed stands
-  where
-    by : (d : Deed) → elim d as (λ _. Type 0) [ deed.Called c ↦ ends_at c ≤ length bytes | deed.Waited times why ↦ Unit {0} ]
-        → elim d as (λ _. Journal) [ deed.Called c ↦ made_of script (bytes ++ more) e.app c ∷ [] | deed.Waited times why ↦ [] ]
-        ≡ elim d as (λ _. Journal) [ deed.Called c ↦ made_of script bytes e.app c ∷ [] | deed.Waited times why ↦ [] ]
-    by (deed.Called c) stands = ap (λ (m : Made). m ∷ []) (made_stays script bytes more e.app c stands)
-    by (deed.Waited times why) stands = refl
+entry_stays script bytes more e stands = grind (arith, common_steps)
 
 pub calls_stay : (script : RunScript) (bytes more : List ℕ) (es : List Entry) → AllStandIn (length bytes) es
     → calls_of script (bytes ++ more) es ≡ calls_of script bytes es
@@ -60,24 +50,10 @@ app_calls_stay k script bytes more es stand =
 -- A wait tells of no call.
 module _ (script : RunScript) (bytes : List ℕ) (k times : ℕ) (e : Entry) (is : times_in k e ≡ Some times) where
   wait_made : made_by script bytes e ≡ []
-  wait_made = by (e.app == k) e.deed is
-    where
-      by : (b : Bool) (d : Deed)
-          → cond b (elim d as (λ _. Option ℕ) [ deed.Called c ↦ None | deed.Waited times why ↦ Some times ]) None ≡ Some times
-          → elim d as (λ _. Journal) [ deed.Called c ↦ made_of script bytes e.app c ∷ [] | deed.Waited times why ↦ [] ] ≡ []
-      by true (deed.Called c) is = absurd cc
-      by true (deed.Waited n why) is = refl
-      by false d is = absurd cc
+  wait_made = grind (arith, common_steps)
 
   wait_port : port_of e ≡ None
-  wait_port = by (e.app == k) e.deed is
-    where
-      by : (b : Bool) (d : Deed)
-          → cond b (elim d as (λ _. Option ℕ) [ deed.Called c ↦ None | deed.Waited times why ↦ Some times ]) None ≡ Some times
-          → elim d as (λ _. Option ℕ) [ deed.Called c ↦ port_called c | deed.Waited times why ↦ None ] ≡ None
-      by true (deed.Called c) is = absurd cc
-      by true (deed.Waited n why) is = refl
-      by false d is = absurd cc
+  wait_port = grind (arith, common_steps)
 
 none_still : (b : Bool) (js : Journal) → js ≡ [] → cond b js [] ≡ []
 none_still true js none = none

@@ -1,6 +1,7 @@
 -- A step of an app keeps what is true of a run.
-use Rattle.std.proofs.Common.{◌≡◌, ◌≢◌, ◌⊎◌, inl, inr, ℕ, ◌<◌, ◌≤◌, ◌==◌, Bool, true, false, cond, List, [], ◌∷◌, ◌++◌, length, Option, Some, None, Result, Ok, Err, refl, sym, ap}
-use Rattle.std.proofs.{Common.{subst, ◌∙◌, arith, slice_set, get_or-set_other, get_or-set_same, length-set, length-append}, lemmas.Bool.{eqb-true, eq-eqb}}
+use Rattle.std.proofs.lemmas.Grind.{common_steps}
+use Rattle.std.proofs.Common.{◌≡◌, ◌⊎◌, inl, inr, ℕ, ◌<◌, ◌≤◌, ◌==◌, Bool, true, false, cond, List, [], ◌∷◌, ◌++◌, length, Option, Some, None, Result, Ok, Err, refl, sym, ap}
+use Rattle.std.proofs.{Common.{subst, ◌∙◌, arith, slice_set, length-set, length-append}, lemmas.Bool.{eqb-true}}
 use Rattle.std.specs.{Option.unwrap_or, Prelude.slice_index_or}
 use Rattle.vs_driver_parts.specs.{State.DriverState, declared.answers.{Polled.Polled, Accepted.Accepted, ConnectError.ConnectError}, Connections.flow_of}
 use Rattle.laws_driver.{proofs.Calls.poll_honest, specs.Carried.Calls.{GuestCall, Journal, Made, ReplyTo, Unlisten, bytes_received, flow_accepted, flow_opened, with_call}}
@@ -106,15 +107,7 @@ flows_after script k m old new journal None notes accounted =
 
 -- An app's call is none that no entry tells of, and what it was given is in its entry.
 called_apps : (script : RunScript) (bytes : List ℕ) (k : ℕ) (c : Called) → IsOfApps (made_of script bytes k c).call
-called_apps script bytes k (called.Connect port answer flow) = tt
-called_apps script bytes k (called.Listen port answer) = tt
-called_apps script bytes k (called.Accept port answer flow) = tt
-called_apps script bytes k (called.Send id at from len answer) = tt
-called_apps script bytes k (called.Recv id len from answer) = tt
-called_apps script bytes k (called.Shutdown id bits answer) = tt
-called_apps script bytes k (called.Grow id alloc answer) = tt
-called_apps script bytes k (called.Close id answer) = tt
-called_apps script bytes k (called.LookAt id answer) = tt
+called_apps script bytes k c = grind (arith, common_steps)
 
 pub of_apps : (script : RunScript) (k : ℕ) (call : GuestCall) (reply : ReplyTo call) (old new : Run)
     → NotesCall script k (made_as call reply) (wait_of (told_by call reply)) old new → IsOfApps call
@@ -230,15 +223,6 @@ module _ (first : ℕ) (script : RunScript) (k : ℕ) (less : k < length script)
       }
 
 -- The app that made the step, and the others.
-not_same : (k j : ℕ) → (k == j) ≡ false → j ≢ k
-not_same k j is same = let e = eq-eqb k j (sym same) in absurd cc
-
-state_after : (k j : ℕ) (b : Bool) (xs : List AppState) (x : AppState) → (k == j) ≡ b → k < length xs
-    → slice_index_or (slice_set xs k x) j no_app ≡ cond b x (slice_index_or xs j no_app)
-state_after k j true xs x is less =
-    ap (λ (n : ℕ). slice_index_or (slice_set xs k x) n no_app) (sym (eqb-true k j is)) ∙ get_or-set_same xs k x no_app less
-state_after k j false xs x is less = get_or-set_other xs k j x no_app (not_same k j is)
-
 -- Steps that waited are noted by no call.
 wait_by : (m : Made) (t : Told) → told_of m ≡ t → (ms : List Made) (why : WaitsFor) (journal : Journal)
     → step_wait (t ∷ told_in ms) ≡ Some why → (step_wait (told_in ms) ≡ Some why → with_noted ms journal ≡ journal)
@@ -266,9 +250,7 @@ module _ (first : ℕ) (script : RunScript) (k : ℕ) (mid new : Run) (less : k 
 
   app_is : (over : Run) (state : AppState) (j : ℕ) → over.apps ≡ mid.apps
       → slice_index_or (slice_set over.apps k state) j no_app ≡ cond (k == j) state (app_at j mid)
-  app_is over state j same =
-      ap (λ (xs : List AppState). slice_index_or (slice_set xs k state) j no_app) same
-      ∙ state_after k j (k == j) mid.apps state refl (subst (λ (n : ℕ). k < n) (sym run.apps) less)
+  app_is over state j same = grind (arith, common_steps)
 
   -- The app is at a connection of its own.
   pub apps_next : (calls : CallsNext script k mid) → AreApps (id_of (app_at k mid).progress) (calls_in calls.made)

@@ -1,21 +1,17 @@
 -- What an app's calls name: its connection is one that it was given, so it closes no other, and it listens where its script says.
-use Rattle.std.proofs.Common.{◌≡◌, ◌⊎◌, inl, inr, ℕ, ◌≤◌, ◌==◌, ◌||◌, nat_lt, Bool, true, false, cond, List, [], ◌∷◌, ◌++◌, Option, Some, None, Result, Ok, Err, refl, sym, ap}
+use Rattle.std.proofs.lemmas.Grind.{common_steps}
+use Rattle.std.proofs.Common.{◌≡◌, ◌⊎◌, inl, inr, ℕ, ◌≤◌, ◌==◌, ◌||◌, Bool, true, false, cond, List, [], ◌∷◌, ◌++◌, Option, Some, None, Result, refl, sym, ap}
 use Rattle.std.{proofs.{Common.{subst, ◌∙◌, arith, slice_get}, lemmas.Bool.eqb-true}, specs.{List.list_any, Option.unwrap_or}}
-use Rattle.vs_script.specs.{App.{Act, Connect, Listen, Accept, Send, Recv, Drain, Exchange, Shutdown, Grow, Close}, Data.size_of}
+use Rattle.vs_script.specs.{App.{Act, Listen, Close}}
 use Rattle.vs_apps_parts.specs.{Journals.{calls_of, calls_of_app, made_by, made_by_app}, Scripts.{RunScript, Follows, all_counted, all_noted, begun, calls_in, calls_next, counted}}
-use Rattle.vs_apps_parts.specs.{Scripts.{goes_to, id_of, on_to_next, recv_next, send_next, told_in, with_noted, is_complete}, declared.journal.{Entry.Entry, WaitsFor.WaitsFor}}
-use Rattle.vs_apps_parts.specs.{declared.{progress.Progress.Progress, told.Told.Told}, Told.{is_any_end, step_wait, told_accept, told_by, told_connect, told_look, told_of}}
+use Rattle.vs_apps_parts.specs.{Scripts.{goes_to, id_of, told_in, with_noted}, declared.journal.{Entry.Entry, WaitsFor.WaitsFor}}
+use Rattle.vs_apps_parts.specs.{declared.{progress.Progress.Progress, told.Told.Told}, Told.{step_wait, told_accept, told_by, told_connect, told_look, told_of}}
 use Rattle.vs_apps_parts.specs.Told.{told_recv, told_send, wait_of}
-use Rattle.vs_driver_parts.specs.declared.answers.{Accepted.Accepted, Closed.Closed, ConnectError.ConnectError, ConnectionState.ConnectionState, ListenError.ListenError}
+use Rattle.vs_driver_parts.specs.declared.answers.{Accepted.Accepted, ConnectError.ConnectError, ConnectionState.ConnectionState}
 use Rattle.vs_driver_parts.specs.declared.answers.{Received.Received, Sent.Sent}
 use Rattle.laws_driver.specs.Carried.Calls.{GuestCall, Journal, Made, ReplyTo, names}
 use Rattle.laws_apps.{specs.{Placed.{closed_by, given_by, listened_by, some_did, was_closed, was_given, was_listened}, Traces.id_told}, proofs.Placed.{one_of, or_first, or_second}}
-use Rattle.vs_driver_parts.specs.declared.answers.Accepted.TheVariants as accepted
-use Rattle.vs_driver_parts.specs.declared.answers.Closed.TheVariants as closed
-use Rattle.vs_driver_parts.specs.declared.answers.ConnectError.TheVariants as refused
 use Rattle.vs_driver_parts.specs.declared.answers.ConnectionState.TheVariants as seen
-use Rattle.vs_driver_parts.specs.declared.answers.Received.TheVariants as got
-use Rattle.vs_driver_parts.specs.declared.answers.Sent.TheVariants as sent
 use Rattle.laws_driver.specs.Carried.Calls as call
 use Rattle.vs_apps_parts.specs.declared.told.Told.TheVariants as told
 
@@ -79,34 +75,16 @@ module _ (by : (call : GuestCall) → ReplyTo call → Option ℕ) (n : ℕ) whe
 
 -- What tells no id, and what was given where one is told.
 none_connect : (r : Result ℕ ConnectError) (id : ℕ) → id_told (told_connect r) ≡ Some id → given_by (call.Connect 0) r ≡ Some id
-none_connect (Ok n) id is = is
-none_connect (Err (refused.Full slots)) id is = absurd cc
-none_connect (Err (refused.NoDescriptor n)) id is = absurd cc
-none_connect (Err (refused.BadPort port)) id is = absurd cc
-none_connect (Err (refused.PortsSpent port n)) id is = absurd cc
-none_connect (Err (refused.BadCid cid)) id is = absurd cc
+none_connect r id is = grind (arith, common_steps)
 
 none_accept : (r : Accepted) (id : ℕ) → id_told (told_accept r) ≡ Some id → given_by (call.Accept 0) r ≡ Some id
-none_accept (accepted.Conn n) id is = is
-none_accept accepted.None id is = absurd cc
-none_accept accepted.NotListening id is = absurd cc
+none_accept r id is = grind (arith, common_steps)
 
 none_send : (r : Sent) (id : ℕ) → id_told (told_send r) ≡ Some id → ⊥
-none_send (sent.Took n) id is = absurd cc
-none_send (sent.NoCredit tx alloc fwd) id is = absurd cc
-none_send (sent.NoDescriptor n) id is = absurd cc
-none_send sent.NotOpen id is = absurd cc
-none_send sent.Reset id is = absurd cc
-none_send sent.ShutDown id is = absurd cc
-none_send sent.Unknown id is = absurd cc
+none_send r id is = grind (arith, common_steps)
 
 none_recv : (r : Received) (id : ℕ) → id_told (told_recv r) ≡ Some id → ⊥
-none_recv (got.Got n) id is = absurd cc
-none_recv got.Empty id is = absurd cc
-none_recv got.NotOpen id is = absurd cc
-none_recv got.End id is = absurd cc
-none_recv got.Reset id is = absurd cc
-none_recv got.Unknown id is = absurd cc
+none_recv r id is = grind (arith, common_steps)
 
 none_look : (r : ConnectionState) (id : ℕ) → id_told (told_look r) ≡ Some id → ⊥
 none_look seen.Asked id is = absurd cc
@@ -130,13 +108,7 @@ was_told (call.Close n) reply id is = absurd cc
 
 -- The connection that an app is at, after what its calls told.
 conn_by : (act : Act) (t : Told) (p : Progress) → ((counted act t p).conn ≡ p.conn) ⊎ ((counted act t p).conn ≡ id_told t)
-conn_by act (told.Asked id) p = inr refl
-conn_by act (told.Given id) p = inr refl
-conn_by act (told.Took n) p = inl refl
-conn_by Drain (told.Got n) p = inl refl
-conn_by act (told.Got n) p = inl refl
-conn_by act (told.Waits why) p = inl refl
-conn_by act told.Ends p = inl refl
+conn_by act t p = grind (arith, common_steps)
 
 module _ (id : ℕ) where
   -- One that tells of an id doesn't wait, so it is noted.
@@ -170,11 +142,7 @@ module _ (id : ℕ) where
       by (inr told) so = noted_told m (told_of m) journal refl (sym told ∙ so)
 
   goes_conn : (act : Act) (ts : List Told) (q : Progress) → (goes_to act ts q).conn ≡ q.conn
-  goes_conn act ts q = by (is_any_end ts || is_complete act q)
-    where
-      by : (b : Bool) → (cond b (on_to_next q) q).conn ≡ q.conn
-      by true = refl
-      by false = refl
+  goes_conn act ts q = grind (arith, common_steps)
 
   step_gives : (act : Act) (ms : List Made) (p : Progress) (journal : Journal) (o : Option WaitsFor) → (p.conn ≡ Some id → was_given id journal ≡ true)
       → (elim o as (λ _. Progress) [ Some why ↦ p | None ↦ goes_to act (told_in ms) (all_counted act (told_in ms) p) ]).conn ≡ Some id
@@ -196,60 +164,16 @@ is_close id (call.Close n) = id == n
 is_close id c = false
 
 closes_it : (id : ℕ) (c : GuestCall) (reply : ReplyTo c) → names id (closed_by c reply) ≡ true → is_close id c ≡ true
-closes_it id (call.Close n) reply is = by reply is
-  where
-    by : (r : Closed) → names id (closed_by (call.Close n) r) ≡ true → (id == n) ≡ true
-    by closed.Done so = so
-    by closed.Unknown so = absurd cc
-closes_it id (call.Connect port) reply is = absurd cc
-closes_it id (call.Accept port) reply is = absurd cc
-closes_it id (call.Send n bytes) reply is = absurd cc
-closes_it id (call.Recv n len) reply is = absurd cc
-closes_it id (call.LookAt n) reply is = absurd cc
-closes_it id (call.Listen port) reply is = absurd cc
-closes_it id (call.Unlisten port) reply is = absurd cc
-closes_it id (call.Shutdown n bits) reply is = absurd cc
-closes_it id (call.Grow n alloc) reply is = absurd cc
+closes_it id c reply is = grind (arith, common_steps)
 
 -- A test that holds of none of an instruction's calls but one.
 module _ (test : GuestCall → Bool) (p : Progress) (sends : (bytes : List ℕ) → test (call.Send (id_of p) bytes) ≡ false)
     (recvs : (n : ℕ) → test (call.Recv (id_of p) n) ≡ false) (looks : test (call.LookAt (id_of p)) ≡ false)
     (connects : (port : ℕ) → test (call.Connect port) ≡ false) (accepts : (port : ℕ) → test (call.Accept port) ≡ false)
     (shuts : (bits : ℕ) → test (call.Shutdown (id_of p) bits) ≡ false) (grows : (n : ℕ) → test (call.Grow (id_of p) n) ≡ false) where
-  none_of : (c : GuestCall) → test c ≡ false → (test c || false) ≡ true → ⊥
-  none_of c fails is = let both : true ≡ false = sym is ∙ ap (λ (b : Bool). b || false) fails in absurd cc
-
   pub only : (act : Act) → list_any test (calls_next act p) ≡ true
       → ((port : ℕ) × (act ≡ Listen port) × (test (call.Listen port) ≡ true)) ⊎ ((act ≡ Close) × (test (call.Close (id_of p)) ≡ true))
-  only (Connect port) is = absurd (by p.asked is)
-    where
-      by : (b : Bool) → (test (cond b (call.LookAt (id_of p)) (call.Connect port)) || false) ≡ true → ⊥
-      by true so = none_of (call.LookAt (id_of p)) looks so
-      by false so = none_of (call.Connect port) (connects port) so
-  only (Listen port) is = inl (port, refl, one (test (call.Listen port)) is)
-    where
-      one : (b : Bool) → (b || false) ≡ true → b ≡ true
-      one true so = refl
-      one false so = so
-  only (Accept port) is = absurd (none_of (call.Accept port) (accepts port) is)
-  only (Send c) is = absurd (none_of (send_next c p) (sends _) is)
-  only (Recv n) is = absurd (none_of (recv_next n p) (recvs _) is)
-  only Drain is = absurd (none_of (call.Recv (id_of p) _) (recvs _) is)
-  only (Exchange c) is = absurd (by (nat_lt p.sent (size_of c)) (nat_lt p.got (size_of c)) is)
-    where
-      by : (a b : Bool) → list_any test (cond a (send_next c p ∷ []) [] ++ cond b (recv_next (size_of c) p ∷ []) []) ≡ true → ⊥
-      by true true so = let no : true ≡ false = sym so ∙ ap (λ (x : Bool). x || (test (recv_next (size_of c) p) || false)) (sends _)
-          ∙ ap (λ (x : Bool). x || false) (recvs _) in absurd cc
-      by true false so = none_of (send_next c p) (sends _) so
-      by false true so = none_of (recv_next (size_of c) p) (recvs _) so
-      by false false so = absurd cc
-  only (Shutdown bits) is = absurd (none_of (call.Shutdown (id_of p) bits) (shuts bits) is)
-  only (Grow alloc) is = absurd (none_of (call.Grow (id_of p) alloc) (grows alloc) is)
-  only Close is = inr (refl, one (test (call.Close (id_of p))) is)
-    where
-      one : (b : Bool) → (b || false) ≡ true → b ≡ true
-      one true so = refl
-      one false so = so
+  only act is = grind (arith, common_steps)
 
 -- So an id that an app closed, it was given.
 pub closed_given : (id : ℕ) → 1 ≤ id → (acts : List Act) (steps : List (List Made)) (q : Progress) → Follows acts begun steps q
@@ -281,20 +205,7 @@ is_listen port (call.Listen n) = port == n
 is_listen port c = false
 
 listens_there : (port : ℕ) (c : GuestCall) (reply : ReplyTo c) → names port (listened_by c reply) ≡ true → is_listen port c ≡ true
-listens_there port (call.Listen n) reply is = by reply is
-  where
-    by : (r : Result (Unit {0}) ListenError) → names port (listened_by (call.Listen n) r) ≡ true → (port == n) ≡ true
-    by (Ok x) so = so
-    by (Err why) so = absurd cc
-listens_there port (call.Close n) reply is = absurd cc
-listens_there port (call.Connect n) reply is = absurd cc
-listens_there port (call.Accept n) reply is = absurd cc
-listens_there port (call.Send n bytes) reply is = absurd cc
-listens_there port (call.Recv n len) reply is = absurd cc
-listens_there port (call.LookAt n) reply is = absurd cc
-listens_there port (call.Unlisten n) reply is = absurd cc
-listens_there port (call.Shutdown n bits) reply is = absurd cc
-listens_there port (call.Grow n alloc) reply is = absurd cc
+listens_there port c reply is = grind (arith, common_steps)
 
 pub listened_there : (port : ℕ) (acts : List Act) (steps : List (List Made)) (q : Progress) → Follows acts begun steps q
     → was_listened port (all_noted steps) ≡ true → (i : ℕ) × (slice_get acts i ≡ Some (Listen port))

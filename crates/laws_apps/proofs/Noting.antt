@@ -1,5 +1,7 @@
 -- Which calls a journal needs: those that sent or received no byte may come and go.
-use Rattle.std.proofs.{Common.{◌≡◌, inl, ℕ, cond, List, [], ◌∷◌, ◌++◌, Option, Some, None, refl, sym, ap, subst, ◌∙◌, append-nil}, Math.Path.fun_ext}
+use Rattle.std.proofs.Common.{arith}
+use Rattle.std.proofs.lemmas.Grind.{common_steps}
+use Rattle.std.proofs.{Common.{◌≡◌, ℕ, cond, List, [], ◌∷◌, ◌++◌, Option, Some, None, refl, sym, ap, subst, ◌∙◌, append-nil}, Math.Path.fun_ext}
 use Rattle.vs_flow.specs.Connection.{Connection}
 use Rattle.vs_ring_port.specs.Contents.{RingContents}
 use Rattle.vs_driver_parts.specs.{declared.answers.{Received.Received, Sent.Sent}, Connections.{recv_of, unread_of_id}, Playing.Plays, State.DriverState}
@@ -17,11 +19,7 @@ pub record SaysSame (j k : Journal) : Type 0 where
   pub senders : (opened : ℕ → Connection) → AreSenders opened j → AreSenders opened k
 
 pub then_same : (a b c : Journal) → SaysSame a b → SaysSame b c → SaysSame a c
-then_same a b c one two = record {
-  received = λ id. one.received id ∙ two.received id;
-  sent = λ opened k. one.sent opened k ∙ two.sent opened k;
-  senders = λ opened are. two.senders opened (one.senders opened are);
-}
+then_same a b c one two = grind (arith, common_steps)
 
 pub same_accounted : (first_id : ℕ) (j k : Journal) (entries : List Entry) (s : DriverState) (c : RingContents) → SaysSame j k
     → IsAccounted first_id j entries s c → IsAccounted first_id k entries s c
@@ -52,11 +50,7 @@ module _ (m : Made) (j : Journal) (none_sent : bytes_sent m.call m.reply ≡ [])
   silent_goes = record { received = received_same; sent = sent_same; senders = λ opened are. are.1 }
 
   pub silent_comes : SaysSame j (m ∷ j)
-  silent_comes = record {
-    received = λ id. sym (received_same id);
-    sent = λ opened c. sym (sent_same opened c);
-    senders = λ opened are. (inl none_sent, are);
-  }
+  silent_comes = grind (arith, common_steps)
 
 -- A call is noted, unless it told to wait.
 module _ (s : DriverState) (j : Journal) where

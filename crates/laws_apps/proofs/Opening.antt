@@ -1,4 +1,5 @@
 -- The flows that a journal's entries tell of the connections that they opened.
+use Rattle.std.proofs.lemmas.Grind.{common_steps}
 use Rattle.std.proofs.Common.{◌≡◌, ℕ, zero, suc, ◌≤◌, ◌==◌, Bool, List, [], ◌∷◌, ◌++◌, Option, Some, None, Result, Ok, Err, refl, sym, subst, arith, slice_set}
 use Rattle.std.{proofs.lemmas.{Bool.Decides.nat_tests, List.Elements.All-contains, Option.{get_or_from_slice_get, slice_get_within}}, specs.Option.option_map}
 use Rattle.vs_flow.{specs.{Connection.Connection, declared.flow.Flow.Flow}, proofs.{Entries.found_passes, Lookups.find_place}}
@@ -15,22 +16,8 @@ use Rattle.vs_apps_parts.specs.declared.journal.Deed.TheVariants as deed
 
 -- Where ids that had connections keep them, all that was told of them stays so.
 module _ (a b : ℕ → Connection) (stay : (id : ℕ) → 1 ≤ (a id).number → b id ≡ a id) where
-  one_stays : (id : ℕ) (flow : Option Flow) → HasOne a id flow → HasOne b id flow
-  one_stays id None has = tt
-  one_stays id (Some f) has = subst (λ (k : Connection). (1 ≤ k.number) × (k.flow ≡ f)) (sym (stay id has.0)) has
-
-  connected_stays : (r : Result ℕ ConnectError) (flow : Option Flow) → IsConnected a r flow → IsConnected b r flow
-  connected_stays (Ok id) flow is = one_stays id flow is
-  connected_stays (Err why) flow is = tt
-
-  accepted_stays : (r : Accepted) (flow : Option Flow) → IsAccepted a r flow → IsAccepted b r flow
-  accepted_stays (accepted.Conn id) flow is = one_stays id flow is
-  accepted_stays r flow is = tt
-
   told_stays : (c : Called) → TellsFlow a c → TellsFlow b c
-  told_stays (called.Connect port answer flow) is = connected_stays answer flow is
-  told_stays (called.Accept port answer flow) is = accepted_stays answer flow is
-  told_stays c is = tt
+  told_stays c is = grind (arith, common_steps)
 
   deed_stays : (d : Deed) → elim d as (λ _. Type 0) [ deed.Called c ↦ TellsFlow a c | deed.Waited times why ↦ Unit {0} ]
       → elim d as (λ _. Type 0) [ deed.Called c ↦ TellsFlow b c | deed.Waited times why ↦ Unit {0} ]

@@ -129,14 +129,7 @@ module _ (journal : Journal) where
       ∙ last_found q ys e (All-tail (λ z. q z ≡ false) y ys none) is flow
 
   unknown_yet : (s : DriverState) → IsFitState true s → ArePlaced journal s → All (λ y. is_known_as s.next_id y ≡ false) s.table.entries
-  unknown_yet s fits x = λ k d less. by (get_or s.table.entries k d) (x.numbers.slots k d less) (fits.sound.were_given k d less)
-    where
-      by : (y : DriverEntry) → y.value.id ≡ 1 + y.slot → y.slot < s.table.given → is_known_as s.next_id y ≡ false
-      by y own under = of (y.value.id == s.next_id) refl
-        where
-          of : (b : Bool) → (y.value.id == s.next_id) ≡ b → (b && not y.value.closed) ≡ false
-          of false other = refl
-          of true same = let is = eqb-true y.value.id s.next_id same in let next = x.numbers.given in absurd (omega (arith, own, under, is, next))
+  unknown_yet s fits x = grind (arith, common_steps)
 
   pub opened_flow : (port : ℕ) (s : DriverState) → IsFitState true s → ArePlaced journal s
       → flow_of s.next_id (connected HOST_CID port s) ≡ Some (next_flow HOST_CID port s)

@@ -1,14 +1,15 @@
 -- The calls of a step together, and what the step comes to.
+use Rattle.std.proofs.lemmas.Grind.{common_steps}
 use Rattle.std.proofs.Common.{◌≡◌, ◌<◌, ◌≤◌, ℕ, zero, suc, Bool, true, false, cond, List, [], ◌∷◌, ◌++◌, length, get_or, map, Option, Some, None, refl, sym, ap, subst, ◌∙◌, arith}
-use Rattle.std.{proofs.lemmas.Option.{slice_get-map, slice_get_past, slice_get_read, unwrap_or-slice_get}, specs.{List.All, Option.{option_map, unwrap_or}, Prelude.slice_get}}
-use Rattle.vs_script.specs.{App.{Act, app_view, instruction_view}, declared.app.{App.App, Instruction.Instruction}}
+use Rattle.std.{proofs.lemmas.Option.{slice_get-map, slice_get_past, slice_get_read}, specs.{List.All, Option.{option_map}, Prelude.slice_get}}
+use Rattle.vs_script.specs.{App.{Act, instruction_view}, declared.app.{App.App, Instruction.Instruction}}
 use Rattle.vs_ring_port.specs.Contents.{RingContents}
 use Rattle.vs_driver_parts.specs.{Conversations.poll_of, Playing.Plays, State.DriverState, declared.answers.Polled.Polled}
 use Rattle.laws_driver.specs.Carried.Calls.{GuestCall, Made}
 use Rattle.vs_apps_parts.specs.{Journals.{data_at, data_in, made_as, wait_noted, wait_place}, Scripts.{AreRight, IsRight, RunScript, acts_of, after_step, calls_in, calls_next}}
 use Rattle.vs_apps_parts.specs.{Scripts.{id_of, recv_next, script_of, slice_left, told_in}, Told.{step_wait, waits_on}, declared.journal.{Entry.Entry, WaitsFor.WaitsFor}}
 use Rattle.vs_apps_parts.specs.declared.{progress.{AppState.AppState, Progress.Progress, Stepped.Stepped}, told.Told.Told}
-use Rattle.laws_apps.specs.{Runs.{Acts, MakesCalls, Moves, PollsTo, Run, Steps, Waits, app_at, poll_moved, with_app}, Calls.{CallsAs, MakesAll, run_with}}
+use Rattle.laws_apps.specs.{Runs.{Acts, MakesCalls, Moves, Run, Steps, Waits, app_at, poll_moved, with_app}, Calls.{CallsAs, MakesAll, run_with}}
 use Rattle.laws_driver.specs.Carried.Calls as call
 use Rattle.vs_apps_parts.specs.declared.progress.Stepped.TheVariants as stepped
 
@@ -46,19 +47,12 @@ module _ (script : RunScript) (k : ℕ) where
 
   pub receives_next : (p : Progress) (n id m : ℕ) (told : Told) (old new : Run) → id ≡ id_of p → m ≡ slice_left p.got n
       → CallsAs script k (call.Recv id m) told old new → CallsAs script k (recv_next n p) told old new
-  receives_next p n id m told old new named few calls =
-      subst (λ (i : ℕ). CallsAs script k (call.Recv i (slice_left p.got n)) told old new) named
-      (subst (λ (j : ℕ). CallsAs script k (call.Recv id j) told old new) few calls)
+  receives_next p n id m told old new named few calls = grind (arith, common_steps)
 
   -- The calls of an instruction that is known.
   pub made_for : (i is : Instruction) (p : Progress) (cs : List GuestCall) (ts all : List Told) (old new : Run) → i ≡ is
       → calls_next (instruction_view is) p ≡ cs → all ≡ ts → MakesAll script k cs ts old new → MakesAll script k (calls_next (instruction_view i) p) all old new
-  made_for i is p cs ts all old new same next says made = record {
-    made = made.made;
-    are = made.are ∙ sym (ap (λ (x : Instruction). calls_next (instruction_view x) p) same ∙ next);
-    tell = made.tell ∙ sym says;
-    makes = made.makes;
-  }
+  made_for i is p cs ts all old new same next says made = grind (arith, common_steps)
 
   calls_then : (xs ys : List Made) → calls_in (xs ++ ys) ≡ calls_in xs ++ calls_in ys
   calls_then [] ys = refl
@@ -130,30 +124,16 @@ module _ (script : RunScript) (k : ℕ) where
         }
 
   -- The poll before it, where room for the journal was made first.
-  acts_after : (s : Stepped) (polled : Polled) (moved : Bool) (old mid new : Run) → moved ≡ poll_moved polled → PollsTo polled old mid
-      → Acts script k s mid new → Steps script k s moved old new
-  acts_after stepped.Moved polled moved old mid new is polls acts = (polled, mid, polls, is, acts)
-  acts_after (stepped.Waiting why) polled moved old mid new is polls acts = (polled, mid, polls, is, acts)
-  acts_after stepped.Done polled moved old mid new is polls acts = (polled, mid, polls, is, acts)
-  acts_after stepped.OutOfMemory polled moved old mid new is polls acts = absurd acts
-
   pub step_as : (s : Stepped) (polled : Polled) (moved : Bool) (d t : DriverState) (c e : RingContents) (apps : List AppState) (es fs : List Entry)
       (bs cs : List ℕ) (new : Run) → moved ≡ poll_moved polled → fs ≡ es → cs ≡ bs → Plays (poll_of d) c (t, polled) e
       → Acts script k s (run_with t e apps fs cs) new → Steps script k s moved (run_with d c apps es bs) new
-  step_as s polled moved d t c e apps es fs bs cs new is entries bytes plays acts =
-      subst (λ (xs : List Entry). Steps script k s moved (run_with d c apps xs bs) new) entries
-      (subst (λ (xs : List ℕ). Steps script k s moved (run_with d c apps fs xs) new) bytes
-      (acts_after s polled moved (run_with d c apps fs cs) (run_with t e apps fs cs) new is (record { polls = plays; rest = refl }) acts))
+  step_as s polled moved d t c e apps es fs bs cs new is entries bytes plays acts = grind (arith, common_steps)
 
 -- The instruction that an app is at.
 module _ (apps : List App) (k at : ℕ) (app : App) (items : List Instruction) (is : app ≡ get_or apps k app) (less : k < length apps)
     (of : items ≡ app.instructions.items) where
   acts_are : acts_of k (script_of apps) ≡ map instruction_view items
-  acts_are =
-      sym (unwrap_or-slice_get (map app_view apps) k [])
-      ∙ ap (λ (o : Option (List Act)). unwrap_or o [])
-      (slice_get-map app_view apps k ∙ ap (λ (o : Option App). option_map app_view o) (slice_get_read apps (length apps) k app refl less is))
-      ∙ ap (λ (xs : List Instruction). map instruction_view xs) (sym of)
+  acts_are = grind (arith, common_steps)
 
   pub act_at : (i : Instruction) → at < length items → i ≡ get_or items at i → slice_get (acts_of k (script_of apps)) at ≡ Some (instruction_view i)
   act_at i within found =
@@ -172,9 +152,7 @@ act_right (a ∷ acts) right zero act is = let same : a ≡ act = cc in subst Is
 act_right (a ∷ acts) right (suc at) act is = act_right acts (λ j d less. right (suc j) d (omega (arith, less))) at act is
 
 acts_right : (script : RunScript) → AreRight script → (k : ℕ) → All IsRight (acts_of k script)
-acts_right [] right k = λ j d less. absurd (omega (arith, less))
-acts_right (acts ∷ script) right zero = right 0 [] (omega arith)
-acts_right (acts ∷ script) right (suc k) = acts_right script (λ j d less. right (suc j) d (omega (arith, less))) k
+acts_right script right k = grind (arith, common_steps)
 
 pub right_at : (script : RunScript) → AreRight script → (k at : ℕ) (act : Act) → slice_get (acts_of k script) at ≡ Some act → IsRight act
 right_at script right k at act is = act_right (acts_of k script) (acts_right script right k) at act is

@@ -24,7 +24,7 @@ use Rattle.laws_driver.{specs.Carried.{Calls.{Close, LookAt, is_right, whole_cal
 use Rattle.laws_driver.proofs.{Polling.poll_keeps, Staging.Rests, Carried.{Changing.{accept_slots, listen_slots}, Growing.honest_stays, Making.whole_with, Righting.told_before}}
 use Rattle.laws_driver.proofs.Carried.Sending.{begins}
 use Rattle.laws_rest.proofs.Quiet.{ends_any, ends_then}
-use Rattle.vs_apps_parts.specs.{Journals.made_as, Scripts.with_noted, Told.{told_by, told_recv, told_send, wait_of}, declared.journal.WaitsFor.WaitsFor}
+use Rattle.vs_apps_parts.specs.{Journals.made_as, Scripts.with_noted, Told.{told_by, told_recv, told_send}}
 use Rattle.laws_apps.specs.{Traces.{AtId, IsClosing, IsDrained, IsStopped, IsTraced, IsTracedWith, TellsOf, is_shut, is_touched, shuts}, Given.AreGivenWith, Placed.was_given}
 use Rattle.laws_apps.proofs.Lasting.{Comes, IsLater, Traced, abort_later, comes_as, end_later, one_comes, poll_traces, read_later, shut_later, traced_still, value_traced}
 use Rattle.vs_conn.specs.declared.end.State.TheVariants as state
@@ -313,15 +313,7 @@ module _ (s : DriverState) (sound : IsTable s.table) (numbers : AreNumbered 1 s.
 noted_traced : (call : GuestCall) (reply : ReplyTo call) (journal : Journal) (next : ℕ) (es : List DriverEntry) → ((id : ℕ) → shuts call id ≡ false)
     → IsTraced journal journal next es → TellsOf call (told_by call reply) journal next es
     → let new = with_noted (made_as call reply ∷ []) journal in IsTraced new new next es
-noted_traced call reply journal next es none x tells = by (wait_of (told_by call reply))
-  where
-    by : (o : Option WaitsFor) → let new = elim o as (λ _. Journal) [ None ↦ made_as call reply ∷ journal | Some why ↦ journal ] in IsTraced new new next es
-    by (Some why) = x
-    by None = record {
-      touched = λ k d less is. ap (λ (b : Bool). b || is_shut (get_or es k d).value.id journal) (none (get_or es k d).value.id) ∙ x.touched k d less is;
-      closed = x.closed;
-      tell = (tells, x.tell);
-    }
+noted_traced call reply journal next es none x tells = grind (arith, common_steps)
 
 -- A send and a connect, on the ring.
 send_traces : (first : ℕ) (by journal : Journal) (id : ℕ) (bytes : List ℕ) → CarriesSend true first id bytes (Traced by journal) (λ answer. Traced by journal)

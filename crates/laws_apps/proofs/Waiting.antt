@@ -1,11 +1,11 @@
 -- Where each app's last entry stands, if it is a wait.
+use Rattle.std.proofs.lemmas.Grind.{common_steps}
 use Rattle.std.proofs.Common.{◌≡◌, ℕ, zero, suc, ◌+◌, ◌==◌, Bool, true, false, cond, List, [], ◌∷◌, ◌++◌, length, Option, Some, None, refl, sym, ap, ◌∙◌, slice_set, arith}
 use Rattle.std.{proofs.lemmas.Bool.eqb-true, specs.{Option.unwrap_or, Prelude.slice_get}}
 use Rattle.laws_driver.specs.Carried.Calls.{Made}
 use Rattle.vs_apps_parts.specs.Journals.{entry_called, entry_waited, last_wait, last_wait_from, one_more, times_at, times_in, wait_noted, wait_place, waited_before, waits_after}
-use Rattle.vs_apps_parts.specs.{Scripts.told_in, Told.{step_wait, told_of, wait_of, waits_on}, declared.journal.{Called.Called, Deed.Deed, Entry.Entry, WaitsFor.WaitsFor}}
+use Rattle.vs_apps_parts.specs.{Scripts.told_in, Told.{step_wait, told_of, wait_of, waits_on}, declared.journal.{Called.Called, Entry.Entry, WaitsFor.WaitsFor}}
 use Rattle.vs_apps_parts.specs.declared.told.Told.{Told}
-use Rattle.vs_apps_parts.specs.declared.journal.Deed.TheVariants as deed
 use Rattle.vs_apps_parts.specs.declared.told.Told.TheVariants as says
 
 last_snoc : (j place : ℕ) (before : Option ℕ) (es : List Entry) (e : Entry)
@@ -21,17 +21,7 @@ called_waits j k es c = last_snoc j 0 None es (entry_called k c)
 -- A wait in place of another of the same app.
 same_wait : (j k times now place : ℕ) (why : WaitsFor) (before : Option ℕ) (e : Entry) → times_in k e ≡ Some times
     → waits_after j place before (entry_waited k now why) ≡ waits_after j place before e
-same_wait j k times now place why before e is = by (e.app == k) refl e.deed refl is
-  where
-    by : (b : Bool) → (e.app == k) ≡ b → (d : Deed) → e.deed ≡ d
-        → cond b (elim d as (λ _. Option ℕ) [ deed.Called c ↦ None | deed.Waited times why ↦ Some times ]) None ≡ Some times
-        → cond (k == j) (Some place) before
-        ≡ cond (e.app == j) (elim e.deed as (λ _. Option ℕ) [ deed.Called c ↦ None | deed.Waited times why ↦ Some place ]) before
-    by true same (deed.Called c) now_is is = absurd cc
-    by true same (deed.Waited n v) now_is is =
-        ap (λ (app : ℕ). cond (app == j) (Some place) before) (sym (eqb-true e.app k same))
-        ∙ ap (λ (d : Deed). cond (e.app == j) (elim d as (λ _. Option ℕ) [ deed.Called c ↦ None | deed.Waited times why ↦ Some place ]) before) (sym now_is)
-    by false same d now_is is = absurd cc
+same_wait j k times now place why before e is = grind (arith, common_steps)
 
 last_set : (j k times now : ℕ) (why : WaitsFor) (e : Entry) → times_in k e ≡ Some times → (place at : ℕ) (before : Option ℕ) (es : List Entry)
     → slice_get es at ≡ Some e → last_wait_from j place before (slice_set es at (entry_waited k now why)) ≡ last_wait_from j place before es

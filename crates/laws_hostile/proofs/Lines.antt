@@ -1,6 +1,8 @@
 -- Lines of a hostile guest's script, one after the other.
-use Rattle.std.proofs.Common.{◌≡◌, ℕ, codes, decimal, zero, suc, ◌+◌, ◌-◌, ◌==◌, ◌&&◌, nat_le, Bool, true, false, cond, List, [], ◌∷◌, ◌++◌, length}
-use Rattle.std.{proofs.Common.{slice_get, Option, Some, None, refl, sym, ap, subst, ◌∙◌}, specs.Option.{option_and_then, option_map_or}}
+use Rattle.std.proofs.Common.{arith}
+use Rattle.std.proofs.lemmas.Grind.{common_steps}
+use Rattle.std.proofs.Common.{◌≡◌, ℕ, codes, decimal, ◌+◌, ◌&&◌, nat_le, Bool, true, false, cond, List, [], ◌∷◌, ◌++◌, length}
+use Rattle.std.{proofs.Common.{Option, Some, None, refl, sym, ap, subst, ◌∙◌}, specs.Option.{option_and_then, option_map_or}}
 use Rattle.vs_flow.specs.declared.flow.Flow.{Flow}
 use Rattle.vs_limits.specs.declared.TheConstants.{GUEST_CID_MIN, GUEST_CID_MAX}
 use Rattle.vs_outside.specs.{HostProgram.{after_client, after_host_write, allowed, client_stream, closed, ended, host_write_answer, with_bytes}, Host.{HostContents, Stream}}
@@ -139,16 +141,8 @@ lines_hold (line ∷ lines) s calls holds =
     lines_hold lines (hostile_does line s).0 (made_in s.guest line s calls) (line_holds line s calls holds)
 
 -- Before the first line.
-no_stream : (k : ℕ) → ◌≡◌ {A = Option Stream} (slice_get [] k) None
-no_stream zero = refl
-no_stream (suc k) = refl
-
 none_shows : Shows (account_of []) beginning.host
-none_shows id = subst (λ (o : Option Stream). ShowsAt o None) (sym (by (id == 0))) refl
-  where
-    by : (b : Bool) → ◌≡◌ {A = Option Stream} (cond b None (slice_get [] (id - 1))) None
-    by true = refl
-    by false = no_stream (id - 1)
+none_shows id = grind (arith, common_steps)
 
 pub beginning_holds : Holds beginning []
 beginning_holds = record { accounts = new_agrees _; shows = none_shows }
@@ -176,10 +170,7 @@ read_front o st delivered given = by o st.by_client refl given
 -- So each stream is given what is its own.
 own_given : (o : Option Flow) (st : Stream) (a : Account) → st.by_client ≡ a.by_client → st.given ≡ a.given → IsGiven o a
     → IsGivenOwn o st a.delivered
-own_given None st a client same nothing = same ∙ nothing
-own_given (Some flow) st a client same front =
-    subst (λ (bytes : List ℕ). IsPrefixOf bytes (ok_line_of st.by_client flow ++ a.delivered)) (sym same)
-    (subst (λ (b : Bool). IsPrefixOf a.given (ok_line_of b flow ++ a.delivered)) (sym client) front)
+own_given o st a client same nothing = grind (arith, common_steps)
 
 -- What its program wrote behind the CONNECT line is what was taken since its stream has a label.
 wrote_own : (flow : Flow) (st : Stream) (a : Account) → a.label ≡ Some flow → ShowsIn st (Some a) → wrote_after_connect st ≡ a.taken

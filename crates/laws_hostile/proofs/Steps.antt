@@ -1,39 +1,25 @@
 -- A conversation over rings in a guest's memory and a host: its calls account for the host, and it is the one that was played.
-use Rattle.std.proofs.Common.{◌≡◌, ℕ, ◌≤◌, List, ◌∷◌, length, refl, sym, arith}
+use Rattle.std.proofs.lemmas.Grind.{common_steps}
+use Rattle.std.proofs.Common.{◌≡◌, ℕ, ◌≤◌, List, ◌∷◌, length, refl, arith}
 use Rattle.vs_contents.specs.CallTree.{Done, Ask, Leads, played}
-use Rattle.vs_outside.specs.{Host.{HostContents, IsDialed, accept_answer, dial_answer, fails_now, read_answer, stream_at, write_answer}, declared.host_net.Dialed.Dialed}
+use Rattle.vs_outside.specs.{Host.{HostContents, IsDialed, accept_answer, dial_answer, read_answer, write_answer}, declared.host_net.Dialed.Dialed}
 use Rattle.vs_outside.specs.declared.host_net.{StreamRead.StreamRead, StreamWrite.StreamWrite}
 use Rattle.vs_device_parts.specs.Calls.{Call, DeviceTree, IsReadOf, TakesWithin, Ring, Accept, Dial, Label, ReadStream, WriteStream, ShutWrite, CloseStream}
 use Rattle.vs_hostile.specs.Answers.{Around, answer_around, bytes_with}
 use Rattle.laws_hostile.specs.Recorded.{Recorded, recording}
 use Rattle.laws_proxy.{specs.Account.{Made.{Made, Makes, MayGet, account_of, made}, Told.Shows}, proofs.Account.{Keeping.{Asks, Keeps, keeps_answer}, Telling.accept_shows}}
 use Rattle.laws_proxy.proofs.Account.Telling.{close_shows, dial_shows, label_shows, read_shows, ring_shows, shut_shows, write_shows}
-use Rattle.laws_device.proofs.Carried.Short.{bytes_short, read_short, write_short}
-use Rattle.vs_outside.specs.declared.host_net.Dialed.TheVariants as dialed
-use Rattle.vs_outside.specs.declared.host_net.StreamRead.TheVariants as read
-use Rattle.vs_outside.specs.declared.host_net.StreamWrite.TheVariants as write
 
 -- The answers of a host in memory are such as may be got.
 dial_is : (path : List ℕ) (c : HostContents) (a : Dialed) → dial_answer path c ≡ a → IsDialed path a c
-dial_is path c (dialed.Stream id) is = sym is
-dial_is path c dialed.Refused is = sym is
-dial_is path c dialed.Failed is = tt
+dial_is path c a is = grind (arith, common_steps)
 
 read_is : (stream n : ℕ) (c : HostContents) (a : StreamRead) → read_answer stream n c ≡ a
     → IsReadOf stream n (a, bytes_with stream a c) c × (length (bytes_with stream a c) ≤ n)
-read_is stream n c (read.Got k) is = (
-  (sym is, refl),
-  let few = bytes_short k (stream_at stream c) in let short = read_short n k (fails_now c) (stream_at stream c) is in omega (arith, few, short),
-)
-read_is stream n c read.Again is = ((sym is, refl), omega arith)
-read_is stream n c read.End is = ((sym is, refl), omega arith)
-read_is stream n c read.Failed is = ((sym is, refl), omega arith)
+read_is stream n c a is = grind (arith, common_steps)
 
 write_is : (stream len : ℕ) (c : HostContents) (a : StreamWrite) → write_answer stream len c ≡ a → TakesWithin len a
-write_is stream len c (write.Took n) is = write_short len n (fails_now c) (stream_at stream c) is
-write_is stream len c write.Again is = tt
-write_is stream len c write.Closed is = tt
-write_is stream len c write.Failed is = tt
+write_is stream len c a is = grind (arith, common_steps)
 
 -- Each call.
 pub step_shows : (call : Call) (around : Around) (calls : List Made) (P : Type 0) → Asks call calls P → Shows (account_of calls) around.host

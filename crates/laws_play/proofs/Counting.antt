@@ -1,17 +1,16 @@
 -- What the calls of a play come to in the device's counts.
-use Rattle.std.proofs.Common.{◌≡◌, ℕ, ◌+◌, ◌≤◌, Bool, true, false, cond, List, [], ◌∷◌, length, refl, sym, ap, subst, ◌∙◌, Result, arith, length-append}
+use Rattle.std.proofs.lemmas.Grind.{common_steps}
+use Rattle.std.proofs.Common.{◌≡◌, ℕ, ◌+◌, ◌≤◌, Bool, false, cond, List, [], ◌∷◌, length, sym, ap, subst, ◌∙◌, Result, arith}
 use Rattle.vs_contents.specs.CallTree.{Ask, Done, played}
 use Rattle.vs_ring_port.specs.declared.failure.Failure.{Failure}
 use Rattle.vs_device_parts.specs.Calls.{DeviceTree}
 use Rattle.laws_proxy.{proofs.{Growing.label_grow_counts, Account.{Quiet.{counts_reset, counts_turn}, Walks.Walks}}, specs.Account.Counts.{DeviceCounts, count_made, counts_of}}
 use Rattle.laws_proxy.specs.Account.{Counts.counts_shown, Made.{Made, made}}
 use Rattle.vs_proxy_parts.specs.{Growing.label_at, State.ProxyState, Turns.{proxy_reset_of, turn_of}, declared.answers.Turn.Turn}
-use Rattle.vs_script.specs.{Outside.Outside, Play.Event, Data.bytes_of}
+use Rattle.vs_script.specs.{Outside.Outside, Play.Event}
 use Rattle.laws_world.{proofs.Failing.{FailsWithin, reset_fails, turn_fails}, specs.{Answers.{Around, answer_around}, World.around}}
 use Rattle.vs_play.specs.{Answer.world_after, Lines.{PlayWorld, event_played}}
 use Rattle.laws_play.specs.Recorded.{calls_of, fails_in, line_fails, made_in, outside_made, recording}
-use Rattle.vs_outside.specs.{HostProgram.{after_host_write, host_write_answer}, Host.HostContents, declared.mem_stream.HostWritten.HostWritten}
-use Rattle.vs_outside.specs.declared.mem_stream.HostWritten.TheVariants as written
 use Rattle.vs_script.specs.Outside as outside
 use Rattle.vs_script.specs.Play as script
 
@@ -57,25 +56,11 @@ module _ (first : DeviceCounts) where
   lines_count (e ∷ es) p calls is = lines_count es (event_played e p).0 (made_in e p calls) (line_counts e p calls is)
 
 -- Faults counted, and calls of the host that are to fail: no more than lines told of.
-written_same : (stream : ℕ) (bytes : List ℕ) (answer : HostWritten) (h : HostContents)
-    → (after_host_write stream bytes answer h).to_fail ≡ h.to_fail
-written_same stream bytes written.Ok h = refl
-written_same stream bytes x h = refl
-
 abbrev After : ℕ → Event → PlayWorld → Type 0
 After m e p = FailsWithin (cond (line_fails e) (m + 1) m) (event_played e p).0.world
 
 host_within : (m : ℕ) (host : outside.Host) (p : PlayWorld) → FailsWithin m p.world → After m (script.Around (outside.OfHost host)) p
-host_within m (outside.HostListen port) p at = at
-host_within m (outside.HostUnlisten port) p at = at
-host_within m (outside.HostWrite stream content) p at =
-    subst (λ (calls : List ℕ). p.world.proxy.device.faults + length calls ≤ m)
-    (sym (written_same stream (bytes_of content) (host_write_answer stream p.world.host) p.world.host)) at
-host_within m (outside.HostAllow stream n) p at = at
-host_within m (outside.HostEnd stream) p at = at
-host_within m (outside.HostClosed stream) p at = at
-host_within m (outside.HostFail n) p at =
-    let longer = length-append p.world.host.to_fail (n ∷ []) in omega (arith, at, longer)
+host_within m host p at = grind (arith, common_steps)
 
 line_within : (m : ℕ) (e : Event) (p : PlayWorld) → FailsWithin m p.world → After m e p
 line_within m (script.Around outside.Turn) p at = turn_fails m p.moment p.world at
@@ -87,8 +72,7 @@ line_within m (script.Around (outside.OfHost host)) p at = host_within m host p 
 line_within m x p at = at
 
 told : (b : Bool) (n m x : ℕ) → x ≤ n + cond b (m + 1) m → x ≤ cond b 1 0 + n + m
-told true n m x less = omega (arith, less)
-told false n m x less = omega (arith, less)
+told b n m x less = grind (arith, common_steps)
 
 pub lines_within : (es : List Event) (p : PlayWorld) (m : ℕ) → FailsWithin m p.world
     → FailsWithin (fails_in es + m) (world_after es p).world

@@ -1,11 +1,12 @@
 -- What holds of each play.
+use Rattle.std.proofs.lemmas.Grind.{common_steps}
 use Rattle.laws_world.proofs.{Carried.{none_received, sent_as_put, sent_stays, wrote_as_put, wrote_stays}, NamesStay.{IsTold, accept_told, connect_told, still_over, still_told}}
 use Rattle.laws_world.proofs.{Names.{IsOver, closed_unknown, flow_opened}, CallRests.opening_rests, Opening.{opening_well, run_goes}, ResetTables.device_emptied}
 use Rattle.laws_world.{proofs.{ScriptLines.{script_leads, script_rests}, Sound.{Goes, IsWell, tx_at_rest}}, specs.Events.is_at_rest}
 use Rattle.laws_world.specs.{Sides.{both_of, device_ends, driver_ends, log_with_staged}, Pipes.{IsFresh, IsRightIn, IsSentIn}, Steps.Leads, World.{Beginning, World, first_cid}}
 use Rattle.laws_world.specs.Names.{times_closed}
-use Rattle.std.proofs.Common.{◌≡◌, ◌≢◌, ℕ, suc, ◌<◌, ◌≤◌, ◌^◌, ◌==◌, Bool, true, false, cond, List, [], ◌∷◌, ◌++◌, None, Some, Result, Ok, refl, sym, ap, subst, ◌∙◌, map, arith}
-use Rattle.std.{proofs.lemmas.{Bool.Decides.nat_tests, List.Elements.{All-head, All-tail}}, specs.List.All}
+use Rattle.std.proofs.Common.{◌≡◌, ◌≢◌, ℕ, ◌<◌, ◌≤◌, ◌^◌, true, List, [], ◌∷◌, ◌++◌, None, Some, Result, Ok, refl, sym, ap, subst, ◌∙◌, map, arith}
+use Rattle.std.{proofs.lemmas.{List.Elements.{All-head, All-tail}}, specs.List.All}
 use Rattle.vs_flow.specs.{Connection.Connection, declared.flow.Flow.Flow}
 use Rattle.laws_history.specs.{History.puts, Packets.{has, shuts_send}}
 use Rattle.vs_driver_parts.specs.{declared.answers.{ConnectError.ConnectError, Accepted.Accepted}, Connections.flow_of}
@@ -18,7 +19,7 @@ use Rattle.vs_report.specs.{Report.{counts_text, device_open_text, guest_open_te
 use Rattle.laws_proxy.specs.{Resets.IsEmptied, Account.Counts.counts_shown}
 use Rattle.laws_driver.specs.Carried.{Calls.{account_of, flow_accepted, flow_opened as flow_after_connect}, Senders.IsSent}
 use Rattle.vs_play.specs.{Answer.{base_path, texts_of, world_after}, Lines.{PlayWorld, event_played}}
-use Rattle.laws_play.proofs.{PlayLines.{after_both, around_journal, front_bounded, lines_of, lines_receive, lines_right, lines_send, rest_bounded, world_is}, Reached.carries}
+use Rattle.laws_play.proofs.{PlayLines.{after_both, front_bounded, lines_of, lines_receive, lines_right, lines_send, rest_bounded, world_is}, Reached.carries}
 use Rattle.laws_play.proofs.{Reached.{holds_open, holds_rest, keeps_credit, keeps_ids, log_is, many_device, many_guest, own_streams, queued, rightly}, Counting.lines_count}
 use Rattle.laws_play.{proofs.Counting.lines_within, specs.{Headline.{begun_play, IsLawful, IsNamedIn, KeepsIds, StaysShut, driver_log, world_of}, Said.accept_answer}}
 use Rattle.laws_play.specs.Said.{close_answer, connect_answer}
@@ -110,14 +111,7 @@ lines_keep (e ∷ es) p rest bounded well =
 -- How often the guest closes an id stays, where no line does.
 line_closes : (id : ℕ) (e : Event) (p : PlayWorld) → e ≢ script.Close id → times_closed id (event_played e p).0.world.journal
     ≡ times_closed id p.world.journal
-line_closes id (script.Close other) p apart = by (other == id) refl
-  where
-    by : (b : Bool) → (other == id) ≡ b → cond b (suc (times_closed id p.world.journal)) (times_closed id p.world.journal)
-        ≡ times_closed id p.world.journal
-    by true is = let same : other ≡ id = grind (arith, nat_tests, is) in absurd (apart (ap script.Close same))
-    by false is = refl
-line_closes id (script.Around line) p apart = ap (times_closed id) (around_journal line p)
-line_closes id x p apart = refl
+line_closes id e p apart = grind (arith, common_steps)
 
 lines_close : (id : ℕ) (es : List Event) (p : PlayWorld) → All (λ e. e ≢ script.Close id) es
     → times_closed id (world_after es p).world.journal ≡ times_closed id p.world.journal

@@ -1,15 +1,13 @@
 -- The lines of a script as lines of the world.
-use Rattle.std.proofs.Common.{◌≡◌, ◌≤◌, ◌^◌, ◌==◌, ◌&&◌, ℕ, inl, inr, nat_lt, Bool, true, false, cond, List, [], ◌∷◌, ◌++◌, Some, refl, sym, ap, subst, ◌∙◌, arith, append_assoc}
-use Rattle.std.proofs.lemmas.Bool.{Decides.nat_tests, and_parts}
-use Rattle.vs_limits.specs.declared.TheConstants.{GUEST_CID_MIN, GUEST_CID_MAX}
-use Rattle.vs_flow.specs.{Connection.Connection, Flow.same_flow, declared.flow.Flow.Flow}
-use Rattle.vs_page.proofs.Flows.{same_is, same_self}
+use Rattle.std.proofs.lemmas.Grind.{common_steps}
+use Rattle.std.proofs.Common.{◌≡◌, ◌≤◌, ℕ, List, [], ◌∷◌, ◌++◌, refl, sym, ap, subst, ◌∙◌, arith, append_assoc}
+use Rattle.vs_flow.specs.{Connection.Connection}
 use Rattle.vs_script.specs.{Data.bytes_of, Outside.{Host, Outside}, Play.Event, Bounds.{AreBounded, IsBounded}}
-use Rattle.laws_world.specs.{Events.is_guest_cid, Plays.{AreRight, Line, after, is_given_right}, World.World}
-use Rattle.laws_driver.{specs.Carried.{Calls.{Journal, received_by as journaled}, Senders.{AreSenders, IsSender, sent_to}}, proofs.Carried.Senders.{only_none, there_none}}
+use Rattle.laws_world.specs.{Plays.{AreRight, Line, after, is_given_right}, World.World}
+use Rattle.laws_driver.{specs.Carried.{Calls.{Journal, received_by as journaled}, Senders.{AreSenders, sent_to}}}
 use Rattle.vs_play.specs.{Answer.world_after, Lines.{PlayWorld, event_played, host_line}}
 use Rattle.laws_play.specs.Said.{received_by, received_in, sent_by, sent_in}
-use Rattle.laws_tables.{specs.Drains.{is_same, only_on}, proofs.Logs.nothing_more}
+use Rattle.laws_tables.{proofs.Logs.nothing_more}
 use Rattle.vs_script.specs.Outside as outside
 use Rattle.vs_script.specs.Play as script
 use Rattle.laws_driver.specs.Carried.Calls as call
@@ -46,13 +44,8 @@ after_append : (xs ys : List Line) (w : World) → after (xs ++ ys) w ≡ after 
 after_append [] ys w = refl
 after_append (x ∷ xs) ys w = after_append xs ys (world.line x w).0
 
-around_is : (line : Outside) (p : PlayWorld) → (event_played (script.Around line) p).0.world ≡ after (lines_around line p.moment) p.world
-around_is outside.Turn p = refl
-around_is x p = refl
-
 event_is : (e : Event) (p : PlayWorld) → (event_played e p).0.world ≡ after (lines_at e p.moment) p.world
-event_is (script.Around line) p = around_is line p
-event_is x p = refl
+event_is e p = grind (arith, common_steps)
 
 -- The world after a script's lines.
 pub world_is : (es : List Event) (p : PlayWorld) → (world_after es p).world ≡ after (lines_of es p) p.world
@@ -63,28 +56,8 @@ world_is (e ∷ es) p =
     ∙ sym (after_append (lines_at e p.moment) (lines_of es (event_played e p).0) p.world)
 
 -- Lines within bounds may be given.
-port_right : (port : ℕ) → port ≤ 4294967295 → nat_lt port (2 ^ 32) ≡ true
-port_right port fits = grind (arith, nat_tests)
-
-cid_right : (cid : ℕ) → GUEST_CID_MIN ≤ cid → cid ≤ GUEST_CID_MAX → is_guest_cid cid ≡ true
-cid_right cid low high = grind (arith, nat_tests)
-
-host_right : (host : Host) → is_given_right (host_line host) ≡ true
-host_right (outside.HostListen port) = refl
-host_right x = refl
-
-around_right : (line : Outside) (now : ℕ) → IsBounded (script.Around line) → AreRight (lines_around line now)
-around_right outside.Turn now b = (refl, tt)
-around_right (outside.Reset cid) now b = (cid_right cid b.0 b.1, tt)
-around_right (outside.Tick ms) now b = tt
-around_right (outside.Grow stream alloc) now b = (refl, tt)
-around_right outside.Client now b = (refl, tt)
-around_right (outside.OfHost host) now b = (host_right host, tt)
-
 event_right : (e : Event) (now : ℕ) → IsBounded e → AreRight (lines_at e now)
-event_right (script.Connect port) now b = (port_right port b, tt)
-event_right (script.Around line) now b = around_right line now b
-event_right x now b = (refl, tt)
+event_right e now b = grind (arith, common_steps)
 
 right_append : (xs ys : List Line) → AreRight xs → AreRight ys → AreRight (xs ++ ys)
 right_append [] ys a b = b
@@ -121,10 +94,6 @@ around_journal (outside.OfHost host) p = by host
     by x = refl
 
 -- A call that moves no bytes.
-none_moved : (bytes : List ℕ) (b : Bool) → bytes ++ cond b [] [] ≡ bytes ++ []
-none_moved bytes true = refl
-none_moved bytes false = refl
-
 -- The calls of a journal's older part sent on ids that have connections too.
 module _ (opened : ℕ → Connection) where
   senders_one : (e : Event) (p : PlayWorld) → AreSenders opened (event_played e p).0.world.journal → AreSenders opened p.world.journal
@@ -137,30 +106,10 @@ module _ (opened : ℕ → Connection) where
   senders_before (e ∷ es) p are = senders_one e p (senders_before es (event_played e p).0 are)
 
 -- The same connection, by the test.
-is_one : (c d : Connection) → is_same c d ≡ true → c ≡ d
-is_one c d is =
-    let parts = and_parts (same_flow c.flow d.flow) (c.number == d.number) is in
-    let test = parts.1 in
-    let number : c.number ≡ d.number = grind (arith, nat_tests, test) in
-    ap (λ (f : Flow). let k : Connection = record { flow = f; number = c.number } in k) (same_is c.flow d.flow parts.0)
-    ∙ ap (λ (n : ℕ). let k : Connection = record { flow = d.flow; number = n } in k) number
-
-same_one : (c : Connection) → is_same c c ≡ true
-same_one c =
-    let number : (c.number == c.number) ≡ true = grind arith in ap (λ (b : Bool). b && (c.number == c.number)) (same_self c.flow) ∙ number
-
 module _ (id : ℕ) where
   event_receives : (e : Event) (p : PlayWorld)
       → journaled id (event_played e p).0.world.journal ≡ journaled id p.world.journal ++ received_by id e p
-  event_receives (script.Connect port) p = none_moved (journaled id p.world.journal) (id == p.world.driver.next_id)
-  event_receives (script.Send other content) p = none_moved (journaled id p.world.journal) (id == other)
-  event_receives (script.Shutdown other bits) p = none_moved (journaled id p.world.journal) (id == other)
-  event_receives (script.Grow other alloc) p = none_moved (journaled id p.world.journal) (id == other)
-  event_receives (script.Close other) p = none_moved (journaled id p.world.journal) (id == other)
-  event_receives (script.State other) p = none_moved (journaled id p.world.journal) (id == other)
-  event_receives script.Poll p = nothing_more (journaled id p.world.journal)
-  event_receives (script.Around line) p = ap (journaled id) (around_journal line p) ∙ nothing_more (journaled id p.world.journal)
-  event_receives x p = refl
+  event_receives e p = grind (arith, common_steps)
 
   pub lines_receive : (es : List Event) (p : PlayWorld)
       → journaled id (world_after es p).world.journal ≡ journaled id p.world.journal ++ received_in id es p
@@ -175,39 +124,12 @@ module _ (id : ℕ) where
     abbrev sent : Journal → List ℕ
     sent journal = sent_to opened (opened id) journal
 
-    same_tests : (other : ℕ) → 1 ≤ (opened other).number → (a b : Bool) → is_same (opened id) (opened other) ≡ a → (id == other) ≡ b → a ≡ b
-    same_tests other some true true same is = refl
-    same_tests other some false false same is = refl
-    same_tests other some true false same is =
-        let at : other ≡ id = once other id some (sym (is_one (opened id) (opened other) same)) in absurd (grind (arith, nat_tests, at, is))
-    same_tests other some false true same is =
-        let at : id ≡ other = grind (arith, nat_tests, is) in
-        let both : true ≡ false = sym (same_one (opened id)) ∙ ap (λ (k : ℕ). is_same (opened id) (opened k)) at ∙ same in absurd cc
-
-    there_is : (other : ℕ) (bytes : List ℕ) → IsSender opened (Some other) bytes → only_on (opened other) bytes (opened id) ≡ cond (id == other) bytes []
-    there_is other bytes (inl none) = only_none (opened other) (opened id) bytes none ∙ sym (by (id == other))
-      where
-        by : (b : Bool) → cond b bytes [] ≡ []
-        by true = none
-        by false = refl
-    there_is other bytes (inr some) =
-        ap (λ (b : Bool). cond b bytes []) (same_tests other some (is_same (opened id) (opened other)) (id == other) refl refl)
-
     more : (journal : Journal) (xs ys : List ℕ) → xs ≡ ys → sent journal ++ xs ≡ sent journal ++ ys
     more journal xs ys is = ap (λ (zs : List ℕ). sent journal ++ zs) is
 
     event_sends : (e : Event) (p : PlayWorld) → AreSenders opened (event_played e p).0.world.journal
         → sent (event_played e p).0.world.journal ≡ sent p.world.journal ++ sent_by id e p
-    event_sends (script.Send other content) p are = more p.world.journal _ _ (there_is other _ are.0)
-    event_sends (script.Connect port) p are = more p.world.journal _ _ (there_none opened (opened id) (Some p.world.driver.next_id) [] refl)
-    event_sends (script.Recv other len) p are = more p.world.journal _ _ (there_none opened (opened id) (Some other) [] refl)
-    event_sends (script.Shutdown other bits) p are = more p.world.journal _ _ (there_none opened (opened id) (Some other) [] refl)
-    event_sends (script.Grow other alloc) p are = more p.world.journal _ _ (there_none opened (opened id) (Some other) [] refl)
-    event_sends (script.Close other) p are = more p.world.journal _ _ (there_none opened (opened id) (Some other) [] refl)
-    event_sends (script.State other) p are = more p.world.journal _ _ (there_none opened (opened id) (Some other) [] refl)
-    event_sends script.Poll p are = nothing_more (sent p.world.journal)
-    event_sends (script.Around line) p are = ap sent (around_journal line p) ∙ nothing_more (sent p.world.journal)
-    event_sends x p are = refl
+    event_sends e p are = grind (arith, common_steps)
 
     pub lines_send : (es : List Event) (p : PlayWorld) → AreSenders opened (world_after es p).world.journal
         → sent (world_after es p).world.journal ≡ sent p.world.journal ++ sent_in id es p

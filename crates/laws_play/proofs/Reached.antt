@@ -1,9 +1,10 @@
 -- What holds of a world in which nothing is staged, where it is well.
+use Rattle.std.proofs.lemmas.Grind.{common_steps}
 use Rattle.laws_world.proofs.{Carried.{given_is, numbered, pending_of, read_front, received_front, to_device, to_driver, wrote_is}, Names.flow_opened, Sound.IsWell}
-use Rattle.laws_world.{proofs.Waiting.{at_device, streams_among}, specs.{Sides.{device_ends, driver_ends, log_with_staged}, Events.{is_at_rest, none_staged}, Pipes.IsRightIn}}
+use Rattle.laws_world.{proofs.Waiting.{at_device, streams_among}, specs.{Sides.{device_ends, driver_ends, log_with_staged}, Events.{is_at_rest}, Pipes.IsRightIn}}
 use Rattle.laws_world.specs.World.{World, first_cid}
 use Rattle.vs_flow.specs.{Connection.Connection, declared.flow.Flow.Flow}
-use Rattle.std.proofs.Common.{[], ap, Bool, false, get_or, length, List, not, refl, subst, suc, sym, true, Option, ℕ, ◌≤◌, ◌&&◌, ◌||◌, ◌++◌, ◌∷◌, ◌≡◌, ◌≢◌, ◌∙◌, arith}
+use Rattle.std.proofs.Common.{[], ap, Bool, false, get_or, length, List, not, refl, subst, suc, sym, true, Option, ℕ, ◌≤◌, ◌||◌, ◌++◌, ◌∷◌, ◌≡◌, ◌≢◌, ◌∙◌, arith}
 use Rattle.std.{proofs.lemmas.{List.{Elements.{All-map, Contains-get_or}, length-map, Kept.AllPairs-cons}, Bool.and_parts}, specs.{List.AllPairs, Option.option_map_or}}
 use Rattle.laws_history.specs.{History.{History, IsFair, MayPut, Put, Side, gots, puts}, declared.packet.Packet.Packet}
 use Rattle.laws_tables.{specs.{Ends.{FlowEnd, flows_of, is_among, replied}, Matches.{Matches, MatchesFlows}}, proofs.{Fair.fair_now, Tables.{driver_open, table_distinct}}}
@@ -14,14 +15,8 @@ use Rattle.laws_driver.{specs.{Honest.slots_of, Resets.MarksResets, Carried.{Cal
 use Rattle.laws_play.specs.Headline.{Carries, HasOwnStreams, HoldsOpen, HoldsTheRest, IsQueued, KeepsCredit, KeepsIds, PutsWithinCredit, device_flows, device_log, device_replies}
 use Rattle.laws_play.specs.Headline.{driver_log, guest_flows}
 use Rattle.laws_device.specs.Streams.{is_waiting_for_request}
-use Rattle.vs_ring_port.specs.EndLog.{all_put as with_pages}
 
 -- No transmit page is staged.
-empty_by : (a : Bool) (pages : List (List ℕ)) (b : Bool) → (a && none_staged pages && b) ≡ true → pages ≡ []
-empty_by a [] b is = refl
-empty_by true (p ∷ ps) b is = absurd cc
-empty_by false (p ∷ ps) b is = absurd cc
-
 -- A flow that is open was opened by the log.
 opened_by : (role : Role) (first : ℕ) (f : Flow) (log : Log) (owed : Bool) → is_open role first f log owed ≡ true
     → WasOpened role first f log
@@ -48,8 +43,7 @@ flows_apart (x ∷ xs) apart =
 module _ {fresh : Type 0} (w : World) (well : IsWell fresh w) (yes : fresh) (rest : is_at_rest w.rings.driver.staged ≡ true) where
   -- The log with what is staged is the log.
   pub log_is : log_with_staged w.rings.driver ≡ driver_log w
-  log_is = ap (λ (pages : List (List ℕ)). with_pages pages w.rings.driver.entries)
-      (empty_by (none_staged w.rings.driver.staged.rx) w.rings.driver.staged.tx (none_staged w.rings.driver.staged.event) rest)
+  log_is = grind (arith, common_steps)
 
   driver_fair : IsFairLog Driver (driver_log w)
   driver_fair = subst (IsFairLog Driver) log_is (well.sound.fair Driver)
@@ -119,8 +113,7 @@ module _ {fresh : Type 0} (w : World) (well : IsWell fresh w) (yes : fresh) (res
   open_at_guest f = driver_open first_cid (driver_ends w.driver) (driver_log w) f driver_matches
 
   left_of : (a b : Bool) → (a || b) ≡ true → b ≡ false → a ≡ true
-  left_of true b is none = refl
-  left_of false b is none = let both : true ≡ false = sym is ∙ none in absurd cc
+  left_of a b is none = grind (arith, common_steps)
 
   pub holds_open : HoldsOpen w
   holds_open = record {
