@@ -3,17 +3,13 @@ use Rattle.std.proofs.Common.{arith}
 use Rattle.std.proofs.lemmas.Grind.{common_steps}
 use Rattle.std.proofs.Common.{◌≡◌, ℕ, zero, suc, ◌<◌, ◌≤◌, ◌==◌, Bool, true, false, cond, List, [], ◌∷◌, ◌++◌, length, Option, Some, None, refl, sym, ap, ◌∙◌}
 use Rattle.std.{proofs.{Common.{append_assoc, append-nil, slice_set, subst}}, specs.Prelude.slice_get}
-use Rattle.vs_driver_parts.specs.Connections.{got_count}
 use Rattle.laws_driver.specs.Carried.Calls.{Journal}
 use Rattle.vs_apps_parts.specs.Journals.{AllStandIn, StandsIn, calls_of, calls_of_app, ends_at, entry_called, entry_waited, gathered, made_by, made_by_app}
-use Rattle.vs_apps_parts.specs.{Journals.{one_more, times_in, wait_noted}, Scripts.{RunScript}, declared.journal.{Called.Called, Deed.Deed}}
-use Rattle.vs_apps_parts.{specs.declared.journal.{Entry.Entry, WaitsFor.WaitsFor}, proofs.Entries.{slice_stays, stand_set, stand_snoc, wait_as}}
+use Rattle.vs_apps_parts.specs.{Journals.{one_more, times_in, wait_noted}, Scripts.{RunScript}, declared.journal.{Called.Called}}
+use Rattle.vs_apps_parts.{specs.declared.journal.{Entry.Entry, WaitsFor.WaitsFor}, proofs.Entries.{stand_set, stand_snoc, wait_as}}
 use Rattle.vs_flow.specs.Connection.{Connection}
 use Rattle.laws_apps.{specs.{Accounts.TellFlows, Placed.{AreOwned, IsOwned, NamesFlow}}, proofs.Opening.{flows_set, flows_snoc}}
 use Rattle.laws_apps.specs.Ports.{ArePortsFrom, IsPort, next_port, port_behind, port_of}
-use Rattle.laws_driver.specs.Carried.Calls as call
-use Rattle.vs_apps_parts.specs.declared.journal.Called.TheVariants as called
-use Rattle.vs_apps_parts.specs.declared.journal.Deed.TheVariants as deed
 
 pub gathered_snoc : (made : Entry → Journal) (es : List Entry) (e : Entry) → gathered made (es ++ e ∷ []) ≡ made e ++ gathered made es
 gathered_snoc made [] e = sym (append-nil (made e))
