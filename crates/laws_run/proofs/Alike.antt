@@ -2,7 +2,7 @@
 use Rattle.std.proofs.Common.{◌≡◌, ◌==◌, ◌||◌, ◌+◌, ℕ, nat_le, not, Bool, true, false, cond, List, [], ◌∷◌, map, length, Option, Some, None, refl, sym, ap, subst, ◌∙◌, arith}
 use Rattle.std.{proofs.{Math.Path.fun_ext, lemmas.{Bool.eq-eqb, Grind.common_steps, List.length-map}}, specs.{Option.option_map, Prelude.{find, is_some}}}
 use Rattle.vs_conn.specs.{End.{ConnectionEnd, may_send_of, state_may_send, wanting_credit}, declared.end.State.{State, TheVariants.{Answering, Asked, Ended, Live}}}
-use Rattle.vs_flow.{specs.Table.{Table, revalued, slots}, proofs.Lookups.find-map_same}
+use Rattle.vs_flow.{specs.Table.{revalued, slots}, proofs.Lookups.find-map_same}
 use Rattle.vs_limits.specs.declared.TheConstants.{DRIVER_CONNECTIONS}
 use Rattle.vs_driver_parts.specs.{Listening.{is_answered, listener_on, next_accepted}, Connections.{entry_answer, gone_answer, is_full, recv_of, state_of, state_shown, with_end}}
 use Rattle.vs_driver_parts.specs.State.{DriverConnection, DriverEntry, DriverState, GoneConnection, Listener, entry_known_as, gone_known_as, is_known_as}
@@ -47,16 +47,7 @@ leaves_then r s t one two = λ apart.
     (a.0, record { entries = b.1.entries ∙ a.1.entries; gone = b.1.gone ∙ a.1.gone; listeners = b.1.listeners ∙ a.1.listeners })
 
 pub leaves_core : (s t : DriverState) → SameCore s t → Leaves s t
-leaves_core s t same =
-    let table : t.table ≡ s.table = ap (λ (x : DriverState). x.table) same.0 in
-    λ apart. (
-      subst (λ (u : Table DriverConnection). AreApart (slots u)) table apart,
-      record {
-        entries = ap (λ (u : Table DriverConnection). map quieted u.entries) table;
-        gone = ap (λ (x : DriverState). x.gone) same.0;
-        listeners = ap (λ (x : DriverState). x.listeners) same.0;
-      },
-    )
+leaves_core s t same = grind (arith, common_steps)
 
 -- A connection that wants credit.
 slot_unlisted : (slot : ℕ) (c : DriverConnection) (es : List DriverEntry) → in_list slot (map (λ x. x.slot) es) ≡ false → map (revalued slot c) es ≡ es
@@ -134,12 +125,7 @@ module _ (s t : DriverState) (alike : Alike s t) where
 
   known_in : (id : ℕ) (e : DriverEntry) (o q : Option DriverEntry) → option_map quieted o ≡ option_map quieted q → q ≡ Some e → entry_known_as id t ≡ o
       → KnownToo id e
-  known_in id e o None same at is = absurd cc
-  known_in id e None (Some b) same at is = absurd cc
-  known_in id e (Some a) (Some b) same at is =
-      let own : b ≡ e = cc in
-      let like : quieted a ≡ quieted b = cc in
-      record { entry = a; there = is; same = like ∙ ap quieted own }
+  known_in id e o q same at is = grind (arith, common_steps)
 
   pub known_too : (id : ℕ) (e : DriverEntry) → entry_known_as id s ≡ Some e → KnownToo id e
   known_too id e at = known_in id e (entry_known_as id t) (entry_known_as id s) (known_alike id) at refl

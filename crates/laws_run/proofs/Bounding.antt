@@ -1,16 +1,16 @@
 -- What an app's done instructions name was moved, where none of them was over early.
-use Rattle.std.proofs.Common.{◌≡◌, ◌⊎◌, inl, inr, ℕ, ◌+◌, ◌≤◌, ◌==◌, ◌||◌, ◌&&◌, not, nat_le, nat_lt, Bool, true, false, cond, List, [], ◌∷◌, ◌++◌, Option, Some, None, slice_get}
-use Rattle.std.{proofs.{Common.{refl, sym, ap, subst, ◌∙◌, arith}, lemmas.Bool.{Decides.nat_tests, and_parts, eq-eqb, eqb-true}}, specs.Option.{option_or, unwrap_or}}
+use Rattle.std.proofs.lemmas.Grind.{common_steps}
+use Rattle.std.proofs.Common.{◌≡◌, ◌⊎◌, inl, inr, ℕ, ◌+◌, ◌≤◌, ◌||◌, ◌&&◌, not, nat_le, nat_lt, Bool, true, false, cond, List, [], ◌∷◌, ◌++◌, Option, Some, None, slice_get}
+use Rattle.std.{proofs.{Common.{refl, sym, ap, subst, ◌∙◌, arith}, lemmas.Bool.{Decides.nat_tests, and_parts, eq-eqb}}, specs.Option.{option_or}}
 use Rattle.vs_script.specs.{App.{Act, Drain, Exchange, Recv, Send}, Data.{Content, size_of}}
-use Rattle.vs_driver_parts.specs.declared.answers.{Received.Received, Sent.Sent}
+use Rattle.vs_driver_parts.specs.declared.answers.{Received.Received}
 use Rattle.laws_driver.specs.Carried.Calls.{GuestCall, Journal, Made, ReplyTo, names}
-use Rattle.vs_apps_parts.specs.Scripts.{Follows, after_step, all_counted, all_noted, begun, calls_in, calls_next, counted, goes_to, id_of, is_complete, more, on_to_next, recv_next}
-use Rattle.vs_apps_parts.specs.{Scripts.{send_next, told_in, with_noted}, Journals.id_in, Told.{is_any_end, is_end, step_wait, told_by, told_of, wait_of, told_recv, told_send}}
+use Rattle.vs_apps_parts.specs.Scripts.{Follows, after_step, all_counted, all_noted, begun, calls_in, calls_next, counted, goes_to, id_of, is_complete, on_to_next}
+use Rattle.vs_apps_parts.specs.{Scripts.{told_in, with_noted}, Journals.id_in, Told.{is_any_end, is_end, step_wait, told_by, told_of, wait_of, told_recv}}
 use Rattle.vs_apps_parts.specs.declared.{journal.WaitsFor.WaitsFor, progress.Progress.Progress, told.Told.Told}
 use Rattle.laws_apps.specs.Traces.{id_told, is_shut, shuts}
 use Rattle.laws_run.specs.Bounds.{done_at, done_by, exchanged_by, is_at, received_in, sent_by, step_on, total, went}
 use Rattle.vs_driver_parts.specs.declared.answers.Received.TheVariants as got
-use Rattle.vs_driver_parts.specs.declared.answers.Sent.TheVariants as sent
 use Rattle.laws_driver.specs.Carried.Calls as call
 use Rattle.vs_apps_parts.specs.declared.told.Told.TheVariants as says
 
@@ -61,38 +61,17 @@ abbrev pub got_told : Told → ℕ
 got_told (says.Got n) = n
 got_told t = 0
 
-more_most : (n k : ℕ) → more n k ≤ k + n
-more_most n k = omega arith
-
 pub sent_adds : (act : Act) (t : Told) (p : Progress) → (counted act t p).sent ≤ p.sent + sent_told t
-sent_adds act (says.Asked id) p = omega arith
-sent_adds act (says.Given id) p = omega arith
-sent_adds act (says.Took n) p = more_most n p.sent
-sent_adds Drain (says.Got n) p = omega arith
-sent_adds act (says.Got n) p = omega arith
-sent_adds act (says.Waits why) p = omega arith
-sent_adds act says.Ends p = omega arith
+sent_adds act t p = grind (arith, common_steps)
 
 pub got_adds : (act : Act) (t : Told) (p : Progress) → (counted act t p).got ≤ p.got + got_told t
-got_adds act (says.Asked id) p = omega arith
-got_adds act (says.Given id) p = omega arith
-got_adds act (says.Took n) p = omega arith
-got_adds Drain (says.Got n) p = omega arith
-got_adds act (says.Got n) p = more_most n p.got
-got_adds act (says.Waits why) p = omega arith
-got_adds act says.Ends p = omega arith
+got_adds act t p = grind (arith, common_steps)
 
 at_most : (n m : ℕ) → nat_le n m ≡ true → n ≤ m
 at_most n m is = grind (arith, nat_tests, is)
 
 exchange_of : (c : Content) (p : Progress) → AreOf is_move (calls_next (Exchange c) p)
-exchange_of c p = by (nat_lt p.sent (size_of c)) (nat_lt p.got (size_of c))
-  where
-    by : (a b : Bool) → AreOf is_move (cond a (send_next c p ∷ []) [] ++ cond b (recv_next (size_of c) p ∷ []) [])
-    by true true = (refl, (refl, tt))
-    by true false = (refl, tt)
-    by false true = (refl, tt)
-    by false false = tt
+exchange_of c p = grind (arith, common_steps)
 
 -- Sends; those and what exchanges send; and what is received.
 pub full_sending : (act : Act) (p : Progress) → is_complete act p ≡ true → sent_by act ≤ p.sent
@@ -208,26 +187,14 @@ total_both size (x ∷ xs) ys = let rest = total_both size xs ys in omega (arith
 
 -- What a step tells.
 counted_at : (act : Act) (t : Told) (p : Progress) → (counted act t p).at ≡ p.at
-counted_at act (says.Asked id) p = refl
-counted_at act (says.Given id) p = refl
-counted_at act (says.Took n) p = refl
-counted_at Drain (says.Got n) p = refl
-counted_at act (says.Got n) p = refl
-counted_at act (says.Waits why) p = refl
-counted_at act says.Ends p = refl
+counted_at act t p = grind (arith, common_steps)
 
 pub all_counted_at : (act : Act) (ts : List Told) (p : Progress) → (all_counted act ts p).at ≡ p.at
 all_counted_at act [] p = refl
 all_counted_at act (t ∷ ts) p = all_counted_at act ts (counted act t p) ∙ counted_at act t p
 
 conn_counted : (act : Act) (t : Told) (p : Progress) → (counted act t p).conn ≡ option_or (id_told t) p.conn
-conn_counted act (says.Asked id) p = refl
-conn_counted act (says.Given id) p = refl
-conn_counted act (says.Took n) p = refl
-conn_counted Drain (says.Got n) p = refl
-conn_counted act (says.Got n) p = refl
-conn_counted act (says.Waits why) p = refl
-conn_counted act says.Ends p = refl
+conn_counted act t p = grind (arith, common_steps)
 
 -- A call that an app makes to send or receive at its connection.
 record IsMove (n : ℕ) (m : Made) : Type 0 where
@@ -388,12 +355,7 @@ module _ (w : Way) (id : ℕ) (acts : List Act) where
       by (says.Waits why) told before rest is = first (rest is)
 
   pub at_parts : (p : Progress) (journal : Journal) → is_at id p journal ≡ true → (id_of p ≡ id) × (is_shut id journal ≡ false)
-  at_parts p journal is = by p.conn (is_shut id journal) is
-    where
-      by : (o : Option ℕ) (b : Bool) → (names id o && not b) ≡ true → (unwrap_or o 0 ≡ id) × (b ≡ false)
-      by None b is = absurd cc
-      by (Some other) true is = let both = and_parts (id == other) false is in absurd (let no : false ≡ true = both.1 in cc)
-      by (Some other) false is = (sym (eqb-true id other (and_parts (id == other) true is).0), refl)
+  at_parts p journal is = grind (arith, common_steps)
 
   module _ (act : Act) (ms : List Made) (p : Progress) (journal : Journal) (at : slice_get acts p.at ≡ Some act) (moving : moves act ≡ true)
       (all : AreMoves (id_of p) ms) (fit : (w.size act ≡ 0) ⊎ AreOf w.of (calls_in ms)) (free : AreFree w.of id (with_noted ms journal)) where
@@ -476,13 +438,6 @@ module _ (w : Way) (id : ℕ) (acts : List Act) where
         by None = either (is_any_end (told_in ms) || is_complete act r) refl
 
 -- The calls of a step that moves bytes.
-no_sent : (r : Sent) → id_told (told_send r) ≡ None
-no_sent (sent.Took n) = refl
-no_sent (sent.NoCredit tx alloc fwd) = refl
-no_sent (sent.NoDescriptor n) = refl
-no_sent sent.NotOpen = refl
-no_sent _ = refl
-
 pub no_received : (r : Received) → id_told (told_recv r) ≡ None
 no_received (got.Got n) = refl
 no_received got.Empty = refl
@@ -498,24 +453,8 @@ abbrev AreMoveCalls : ℕ → List GuestCall → Type 0
 AreMoveCalls n [] = Unit {0}
 AreMoveCalls n (c ∷ cs) = IsMoveCall n c × AreMoveCalls n cs
 
-send_call : (n : ℕ) (bytes : List ℕ) → IsMoveCall n (call.Send n bytes)
-send_call n bytes = record { named = refl; none = no_sent; still = λ id. refl }
-
-recv_call : (n k : ℕ) → IsMoveCall n (call.Recv n k)
-recv_call n k = record { named = refl; none = λ reply. no_received reply.0; still = λ id. refl }
-
 next_moves : (act : Act) (p : Progress) → moves act ≡ true → AreMoveCalls (id_of p) (calls_next act p)
-next_moves (Send c) p is = (send_call (id_of p) _, tt)
-next_moves (Recv n) p is = (recv_call (id_of p) _, tt)
-next_moves Drain p is = (recv_call (id_of p) _, tt)
-next_moves (Exchange c) p is = by (nat_lt p.sent (size_of c)) (nat_lt p.got (size_of c))
-  where
-    by : (a b : Bool) → AreMoveCalls (id_of p) (cond a (send_next c p ∷ []) [] ++ cond b (recv_next (size_of c) p ∷ []) [])
-    by true true = (send_call (id_of p) _, (recv_call (id_of p) _, tt))
-    by true false = (send_call (id_of p) _, tt)
-    by false true = (recv_call (id_of p) _, tt)
-    by false false = tt
-next_moves act p is = absurd cc
+next_moves act p is = grind (arith, common_steps)
 
 abbrev pub ArePlain : Journal → Type 0
 ArePlain [] = Unit {0}

@@ -1,19 +1,19 @@
 -- A stage of filling that puts nothing read each stream that may be read, and each gave Again.
+use Rattle.std.proofs.lemmas.Grind.{common_steps}
 use Rattle.std.proofs.Common.{slice_get, slice_set, ◌-◌, ◌≡◌, ◌≢◌, ◌≤◌, ◌+◌, ◌==◌, ◌&&◌, ◌||◌, not, ℕ, zero, suc, Bool, true, false, cond, List, [], ◌∷◌, ◌++◌, length, Option}
 use Rattle.std.{proofs.{Common.{Some, None, refl, sym, ap, subst, ◌∙◌, arith}, lemmas.{Bool.{eq-eqb, eqb-true}, Option.same_Some}}, specs.Option.{ForSome, option_map}}
-use Rattle.std.specs.{Option.option_map_or, Prelude.{min, take}}
-use Rattle.vs_contents.specs.{CallTree.{Ask, Done, bind, for_each, while_up_to}, Contents.Exposes}
+use Rattle.std.specs.{Option.option_map_or, Prelude.{take}}
+use Rattle.vs_contents.specs.{CallTree.{Ask, Done, bind, for_each, while_up_to}}
 use Rattle.vs_conn.specs.{End.{ConnectionEnd, owes_of, wanting_credit, with_payload_sent, with_shut}, Headers.{owed_header, payload_header}, declared.end.{Owed.Owed, State.State}}
-use Rattle.vs_conn.specs.declared.end.State.TheVariants.{Answering, Asked, Ended, Live}
 use Rattle.vs_credit.specs.Credit.{free_of}
 use Rattle.vs_flow.{specs.Table.{Table, entry_under, revalued, slots, with_value}, proofs.Lookups.entry_under-with_value}
 use Rattle.vs_header.specs.declared.Header.{Header}
-use Rattle.vs_outside.specs.{Host.{HostContents, Stream, with_stream, after_close, after_read, fails_now, read_failed, read_of, stream_at}, declared.host_net.StreamRead.StreamRead}
+use Rattle.vs_outside.specs.{Host.{HostContents, Stream, with_stream, after_close, after_read, read_failed, stream_at}, declared.host_net.StreamRead.StreamRead}
 use Rattle.vs_outside.proofs.Frames.{keeps_others, stream_at-with_stream}
 use Rattle.vs_replies.specs.declared.Reply.{Reply}
-use Rattle.vs_ring_port.specs.{Contents.Take, declared.{device_ring.{Chain.Chain, Next.Next}, queue.Queue.TheVariants.Rx}}
-use Rattle.vs_device_parts.specs.{Calls.{Allows, Answer, CloseStream, DeviceTree, HostMoves, IsReadOf, ReadStream, Ring, Situation}, Connections.{after_shut, cut_off}}
-use Rattle.vs_device_parts.specs.{Connections.{route_to_guest, with_connection, with_fault}, Playing.Runs, Receiving.{Filling, after_paying, hold, holding, may_read, put_on}}
+use Rattle.vs_ring_port.specs.{declared.{device_ring.{Chain.Chain}}}
+use Rattle.vs_device_parts.specs.{Calls.{Allows, Answer, CloseStream, DeviceTree, HostMoves, IsReadOf, ReadStream, Situation}, Connections.{after_shut, cut_off}}
+use Rattle.vs_device_parts.specs.{Connections.{route_to_guest, with_connection, with_fault}, Playing.Runs, Receiving.{Filling, after_paying, hold, may_read, put_on}}
 use Rattle.vs_device_parts.specs.Receiving.{put_owed, put_packet, put_reply, put_reply_of, read_answered, read_room, read_stream, read_with_chain, reply_header, round_from}
 use Rattle.vs_device_parts.{specs.{Receiving.{serve_slot, written}, State.{DeviceConnection, DeviceEntry, DeviceState}, Steps.filling, Streams.closing}, proofs.Under.has_slot}
 use Rattle.laws_device.{specs.{Named.Waiting.filling_of, Honest.end_in}, proofs.Walk.Keeping.{Asking, Keeps, keeps_then, keeps_weaker}}
@@ -22,7 +22,6 @@ use Rattle.laws_run.specs.Dry.{IsDry, IsDryAt, IsFull, IsFullAt, IsToldDry, IsTo
 use Rattle.vs_limits.specs.declared.TheConstants.{OWED_MAX}
 use Rattle.vs_outside.specs.declared.host_net.StreamRead.TheVariants as read
 use Rattle.vs_outside.specs.declared.host_net.StreamState.TheVariants as state
-use Rattle.vs_ring_port.specs.declared.device_ring.Next.TheVariants as next
 
 -- Whatever ring and host answer.
 abbrev pub allowed : Asking Situation
@@ -55,14 +54,7 @@ is_over N r c x d least over = record { rises = least; same = λ e o. absurd (le
 
 one_then : (N M K : Relation) (r : Filling) (c : Situation) (q : Filling) (d : Situation) (x : Filling) (e : Situation)
     → (N r c q d → M q d x e → K r c x e) → Step N r c q d → Step M q d x e → Step K r c x e
-one_then N M K r c q d x e gives a b = record {
-  rises = (let first = a.rises in let then = b.rises in omega (arith, first, then));
-  same = λ put o.
-      let first = a.rises in
-      let then = b.rises in
-      let second = b.same (omega (arith, first, then, put)) o in
-      let before = a.same (omega (arith, first, then, put)) second.0 in (before.0, gives before.1 second.1);
-}
+one_then N M K r c q d x e gives a b = grind (arith, common_steps)
 
 -- The table and the host stay.
 record Same (r : Filling) (c : Situation) (x : Filling) (d : Situation) : Type 0 where
@@ -109,28 +101,11 @@ record Serves (slot : ℕ) (r : Filling) (c : Situation) (x : Filling) (d : Situ
 
 serves_then : (slot : ℕ) (r : Filling) (c : Situation) (q : Filling) (d : Situation) (x : Filling) (e : Situation) → Serves slot r c q d → Same q d x e
     → Serves slot r c x e
-serves_then slot r c q d x e a same = record {
-  touches = record {
-    slots = ap (λ (t : Table DeviceConnection). slots t) same.table ∙ a.touches.slots;
-    frame = keeps_both _ _ _ _ _ _ a.touches.frame (keeps_same _ _ _ _ same.table same.host);
-    others = λ n other. ap (λ (t : Table DeviceConnection). reads_under n t) same.table ∙ a.touches.others n other;
-    dry = λ id is. subst (λ (o : Option HostContents). IsToldDry id o) (sym same.host) (a.touches.dry id is);
-  };
-  own = λ id at. subst (λ (o : Option HostContents). IsToldDry id o) (sym same.host)
-      (a.own id (ap (λ (t : Table DeviceConnection). reads_under slot t) (sym same.table) ∙ at));
-}
+serves_then slot r c q d x e a same = grind (arith, common_steps)
 
 then_serves : (slot : ℕ) (r : Filling) (c : Situation) (q : Filling) (d : Situation) (x : Filling) (e : Situation) → Same r c q d → Serves slot q d x e
     → Serves slot r c x e
-then_serves slot r c q d x e same b = record {
-  touches = record {
-    slots = b.touches.slots ∙ ap (λ (t : Table DeviceConnection). slots t) same.table;
-    frame = keeps_both _ _ _ _ _ _ (keeps_same _ _ _ _ same.table same.host) b.touches.frame;
-    others = λ n other. b.touches.others n other ∙ ap (λ (t : Table DeviceConnection). reads_under n t) same.table;
-    dry = λ id is. b.touches.dry id (subst (λ (o : Option HostContents). IsToldDry id o) (sym same.host) is);
-  };
-  own = b.own;
-}
+then_serves slot r c q d x e same b = grind (arith, common_steps)
 
 -- A chain is held, or the stage is over.
 record Held (r : Filling) (c : Situation) (q : Filling) (d : Situation) : Type 0 where
@@ -138,22 +113,8 @@ record Held (r : Filling) (c : Situation) (q : Filling) (d : Situation) : Type 0
   step : Step Same r c q d
   over : q.state.chain ≡ None → q.over ≡ true
 
-held_by : (r : Filling) (c d : Situation) (a : Next) → r.over ≡ false → d.host ≡ c.host → Held r c (holding a r) d
-held_by r c d (next.Chain chain) on host = record {
-  table = refl;
-  step = record { rises = omega arith; same = λ e o. (on, record { table = refl; host = host }) };
-  over = λ none. absurd cc;
-}
-held_by r c d next.None on host = record { table = refl; step = is_over Same r c (holding next.None r) d (omega arith) refl; over = λ none. refl }
-held_by r c d (next.Failed f) on host = record { table = refl; step = is_over Same r c (holding (next.Failed f) r) d (omega arith) refl; over = λ none. refl }
-
 holds : (r : Filling) (c : Situation) → r.over ≡ false → Keeps allowed (λ q d. Held r c q d) (hold r) c
-holds r c on = by r.state.chain refl
-  where
-    by : (o : Option Chain) → r.state.chain ≡ o
-        → Keeps allowed (λ q d. Held r c q d) (elim o as (λ _. DeviceTree Filling) [ Some chain ↦ Done r | None ↦ Ask (Ring (Take Rx)) (λ answer. Done (holding answer r)) ]) c
-    by (Some chain) is = record { table = refl; step = still r c on; over = λ none. absurd (let no : Some chain ≡ None = sym is ∙ none in cc) }
-    by None is = λ a d made. held_by r c d a on made.1
+holds r c on = grind (arith, common_steps)
 
 held_none : (N : Relation) (r : Filling) (c : Situation) (q : Filling) (d : Situation) → Held r c q d → q.state.chain ≡ None → Step N r c q d
 held_none N r c q d held none = is_over N r c q d held.step.rises (held.over none)
@@ -325,12 +286,7 @@ IsQuiet a = Unit {0}
 
 pub host_moves : (Q : ℕ → HostContents → Type 0) (failed : Bool) (P : HostContents → Type 0) (f : HostContents → HostContents) (c d : Situation)
     → HostMoves failed P f c d → ((id : ℕ) (h : HostContents) → Q id h → Q id (f h)) → (id : ℕ) → ForSome c.host (Q id) → ForSome d.host (Q id)
-host_moves Q failed P f c d moves keeps id dry = by c.host moves.host dry
-  where
-    by : (o : Option HostContents) → Exposes o d.host P f → ForSome o (Q id) → ForSome d.host (Q id)
-    by None exposes dry = λ h there. absurd (let no : ◌≡◌ {A = Option HostContents} None (Some h) = sym exposes ∙ there in cc)
-    by (Some g) exposes dry = λ h there.
-        subst (Q id) (same_Some (f g) h (sym exposes.1 ∙ there)) (keeps id g (dry g refl))
+host_moves Q failed P f c d moves keeps id dry = grind (arith, common_steps)
 
 pub stays_with : (P : Stream → Type 0) (f : Stream → Stream) → ((s : Stream) → P s → P (f s)) → (i id : ℕ) (h : HostContents)
     → ForSome (stream_at i h) P → ForSome (stream_at i (with_stream id f h)) P
@@ -369,46 +325,13 @@ dry_read read.End stream i h quiet dry = dry
 dry_read read.Failed stream i h quiet dry = dry
 
 -- What Again says of a stream.
-again_dry : (s : Stream) (room : ℕ) → ◌≡◌ {A = StreamRead} read.Again (read_of room s) → IsDry s
-again_dry s room is = by (length s.untaken == 0) refl s.ended refl is
-  where
-    none : (xs : List ℕ) → length xs ≡ 0 → xs ≡ []
-    none [] len = refl
-    none (x ∷ xs) len = absurd (omega (arith, len))
-
-    by : (b : Bool) → (length s.untaken == 0) ≡ b → (e : Bool) → s.ended ≡ e
-        → ◌≡◌ {A = StreamRead} read.Again (cond b (cond e read.End read.Again) (read.Got (min room (length s.untaken)))) → IsDry s
-    by true empty true ended says = absurd cc
-    by true empty false ended says = record { untaken = none s.untaken (eqb-true (length s.untaken) 0 empty); goes_on = ended }
-    by false some e ended says = absurd cc
-
 told_again : (stream room : ℕ) (c d : Situation) (payload : List ℕ)
     → HostMoves false (IsReadOf stream room (read.Again, payload)) (after_read stream read.Again) c d → IsToldDry stream d.host
-told_again stream room c d payload moves = by c.host moves.host
-  where
-    at : (h : HostContents) (b : Bool) (o : Option Stream) → stream_at stream h ≡ o
-        → ◌≡◌ {A = StreamRead} read.Again (cond b read.Failed (option_map_or (read_of room) o read.Again)) → IsDryAt stream h
-    at h true o is says = absurd cc
-    at h false None is says = λ s there. absurd (let no : None ≡ Some s = sym is ∙ there in cc)
-    at h false (Some x) is says = λ s there. subst IsDry (same_Some x s (sym is ∙ there)) (again_dry x room says)
-
-    by : (o : Option HostContents) → Exposes o d.host (IsReadOf stream room (read.Again, payload)) (after_read stream read.Again) → IsToldDry stream d.host
-    by None exposes = λ h there. absurd (let no : ◌≡◌ {A = Option HostContents} None (Some h) = sym exposes ∙ there in cc)
-    by (Some g) exposes = λ h there.
-        subst (IsDryAt stream) (same_Some (after_read stream read.Again g) h (sym exposes.1 ∙ there))
-        (at g (fails_now g) (stream_at stream g) refl exposes.0.0)
+told_again stream room c d payload moves = grind (arith, common_steps)
 
 -- An end that told that it sends no more reads nothing.
 not_sending : (x : ConnectionEnd) (st : State) → x.own.send ≡ true → may_read x st ≡ false
-not_sending x Live is = by x.peer.receive x.own.send is
-  where
-    by : (a b : Bool) → b ≡ true → (not a && not b) ≡ false
-    by true b so = refl
-    by false true so = refl
-    by false false so = absurd cc
-not_sending x Ended is = refl
-not_sending x Asked is = refl
-not_sending x Answering is = refl
+not_sending x st is = grind (arith, common_steps)
 
 reads_none : (e : DeviceEntry) → may_read e.value.end e.value.end.state ≡ false → reads_of e ≡ None
 reads_none e is = ap (λ (b : Bool). cond (b && not (free_of e.value.end.credit == 0)) (Some e.value.stream) None) is

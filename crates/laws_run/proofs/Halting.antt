@@ -1,16 +1,16 @@
 -- A call that told an app to wait leaves the driver alike, and the driver answers it so again.
-use Rattle.std.proofs.Common.{◌≡◌, ◌<◌, ◌==◌, ℕ, nat_lt, Bool, true, false, cond, List, [], ◌∷◌, length, Option, Some, None, Result, Ok, Err, refl, sym, ap, subst, ◌∙◌, arith}
-use Rattle.std.{proofs.lemmas.{Bool.{Decides.nat_tests, eqb-true}, Option.same_Some}, specs.Prelude.{is_some, slice_get}}
+use Rattle.std.proofs.lemmas.Grind.{common_steps}
+use Rattle.std.proofs.Common.{◌≡◌, ◌==◌, ℕ, Bool, true, false, cond, List, [], ◌∷◌, length, Option, Some, None, Result, Ok, Err, refl, sym, ap, subst, ◌∙◌, arith}
+use Rattle.std.{proofs.lemmas.{Bool.{eqb-true}, Option.same_Some}, specs.Prelude.{is_some, slice_get}}
 use Rattle.vs_contents.{specs.CallTree.{Done, bind}, proofs.Leads.{AllEnds, end_of}}
-use Rattle.vs_conn.specs.{End.{may_send_of, wanting_credit, with_payload_sent}, declared.end.Stop.Stop}
+use Rattle.vs_conn.specs.{End.{may_send_of, wanting_credit}, declared.end.Stop.Stop}
 use Rattle.vs_credit.specs.declared.Credit.{Credit}
-use Rattle.vs_flow.specs.Flow.{is_assigned}
-use Rattle.vs_limits.specs.declared.TheConstants.{DRIVER_CONNECTIONS, HOST_CID}
+use Rattle.vs_limits.specs.declared.TheConstants.{HOST_CID}
 use Rattle.vs_script.specs.App.{Act}
 use Rattle.vs_ring_port.specs.Contents.{RingContents}
-use Rattle.vs_driver_parts.specs.Connections.{after_read, after_recv, all_gone_after_read, connect_refusal, connected, is_full, is_spent, entry_answer, entry_read, gone_answer}
-use Rattle.vs_driver_parts.specs.{Connections.{is_at_end, nothing_read, read_of, recv_of, state_of, unread_of_id, with_connection, with_end}, Conversations.connect_of}
-use Rattle.vs_driver_parts.specs.Conversations.{connect_with_page, has_page, payload_of, post_packet, reap_all, request_bytes, send_of, send_on, no_credit, not_sent, payload_bytes}
+use Rattle.vs_driver_parts.specs.Connections.{after_recv, all_gone_after_read, connect_refusal, is_full, entry_answer, entry_read, gone_answer}
+use Rattle.vs_driver_parts.specs.{Connections.{is_at_end, nothing_read, read_of, recv_of, state_of, unread_of_id, with_end}, Conversations.connect_of}
+use Rattle.vs_driver_parts.specs.Conversations.{connect_with_page, payload_of, reap_all, send_of, send_on, no_credit, not_sent}
 use Rattle.vs_driver_parts.specs.{Conversations.{send_stopped, send_with_credit, send_with_page}, Listening.{next_accepted, after_accept, accept_of, listener_on, with_waiting}}
 use Rattle.vs_driver_parts.specs.{Listening.without_id, Playing.{Plays, RingAllows}, State.{DriverEntry, DriverState, GoneConnection, Listener, entry_known_as, gone_known_as}}
 use Rattle.vs_driver_parts.specs.declared.answers.{Accepted.Accepted, ConnectError.ConnectError, ConnectionState.ConnectionState, Received.Received, Sent.Sent}
@@ -24,7 +24,6 @@ use Rattle.laws_run.proofs.{Alike.state_alike, Still.{HasRoom, SameCore, core_sa
 use Rattle.vs_run_report.specs.Right.{may_wait}
 use Rattle.vs_conn.specs.declared.end.Stop.TheVariants as stop
 use Rattle.vs_driver_parts.specs.declared.answers.Accepted.TheVariants as accepted
-use Rattle.vs_driver_parts.specs.declared.answers.ConnectError.TheVariants as refused
 use Rattle.vs_driver_parts.specs.declared.answers.ConnectionState.TheVariants as seen
 use Rattle.vs_driver_parts.specs.declared.answers.Received.TheVariants as got
 use Rattle.vs_driver_parts.specs.declared.answers.Sent.TheVariants as sent
@@ -58,9 +57,6 @@ StopsAccept port why s = ⊥
 abbrev pub IsRoomy : WaitsFor → Type 0
 IsRoomy (waits.NoDescriptor in_flight) = ⊥
 IsRoomy why = Unit {0}
-
-no_room : (a b : ℕ) → nat_lt a b ≡ false → a < b → ⊥
-no_room a b is less = absurd (grind (arith, nat_tests, is, less))
 
 -- The driver's answer to a call is to wait for this.
 abbrev pub Stops : GuestCall → WaitsFor → DriverState → Type 0
@@ -121,21 +117,9 @@ abbrev Connects : DriverState → DriverState × Result ℕ ConnectError → Typ
 Connects s x = (why : WaitsFor) → wait_of (told_connect x.1) ≡ Some why → SameCore s x.0 × StopsConnect why s × (HasRoom s → IsRoomy why)
 
 -- What refuses a connect at once, and what an accept finds that waits.
-full_by : (host slots : ℕ) (s : DriverState) (a b c : Bool) → cond a (Some (refused.BadPort host)) (cond b (Some (refused.Full DRIVER_CONNECTIONS))
-    (cond c (Some (refused.PortsSpent s.last_port s.last_id)) None)) ≡ Some (refused.Full slots) → b ≡ true
-full_by host slots s true b c is = absurd cc
-full_by host slots s false true c is = refl
-full_by host slots s false false true is = absurd cc
-full_by host slots s false false false is = absurd cc
-
 stops_connect : (host : ℕ) (s : DriverState) (r : ConnectError) (why : WaitsFor) → connect_refusal HOST_CID host s ≡ Some r → wait_of (told_connect (Err r)) ≡ Some why
     → StopsConnect why s
-stops_connect host s (refused.Full slots) why at is =
-    subst (λ (w : WaitsFor). StopsConnect w s) (same_Some waits.Full why is) (full_by host slots s (is_assigned host) (is_full s) (is_spent HOST_CID host s) at)
-stops_connect host s (refused.NoDescriptor n) why at is = subst (λ (w : WaitsFor). StopsConnect w s) (same_Some (waits.NoDescriptor n) why is) tt
-stops_connect host s (refused.BadPort port) why at is = absurd cc
-stops_connect host s (refused.PortsSpent port id) why at is = absurd cc
-stops_connect host s (refused.BadCid cid) why at is = absurd cc
+stops_connect host s r why at is = grind (arith, common_steps)
 
 stops_accept : (port : ℕ) (s : DriverState) (b : Bool) (o : Option ℕ) (why : WaitsFor) → is_some (listener_on port s.listeners) ≡ b → next_accepted port s ≡ o
     → wait_of (told_accept (cond b (elim o as (λ _. Accepted) [ None ↦ accepted.None | Some id ↦ accepted.Conn id ]) accepted.NotListening)) ≡ Some why
@@ -145,32 +129,12 @@ stops_accept port s true (Some id) why listens some is = absurd cc
 stops_accept port s false o why listens none is = absurd cc
 
 connects_page : (host : ℕ) (s t : DriverState) → SameCore s t → AllEnds (Connects s) (connect_with_page HOST_CID host t)
-connects_page host s t same = by (has_page t) refl
-  where
-    by : (b : Bool) → has_page t ≡ b → AllEnds (Connects s) (cond b (bind (post_packet (request_bytes HOST_CID host t) t) (λ u. Done (connected HOST_CID host u, Ok u.next_id)))
-        (Done (t, Err (refused.NoDescriptor t.in_flight))))
-    by true has = λ a b why waits. absurd cc
-    by false has = λ why is. (
-      same,
-      subst (λ (w : WaitsFor). StopsConnect w s) (same_Some (waits.NoDescriptor t.in_flight) why is) tt,
-      λ room. absurd (no_room t.in_flight t.size has (room_stays s t same room)),
-    )
+connects_page host s t same = grind (arith, common_steps)
 
 -- What refuses a connect at once is no want of a page.
 refusal_roomy : (host : ℕ) (s : DriverState) (refusal : ConnectError) (why : WaitsFor) → connect_refusal HOST_CID host s ≡ Some refusal
     → wait_of (told_connect (Err refusal)) ≡ Some why → IsRoomy why
-refusal_roomy host s (refused.BadPort port) why is waits = absurd cc
-refusal_roomy host s (refused.Full slots) why is so = subst IsRoomy (same_Some waits.Full why so) tt
-refusal_roomy host s (refused.PortsSpent port id) why is waits = absurd cc
-refusal_roomy host s (refused.BadCid cid) why is waits = absurd cc
-refusal_roomy host s (refused.NoDescriptor n) why is waits = by (is_assigned host) (is_full s) (is_spent HOST_CID host s) is
-  where
-    by : (a b c : Bool) → cond a (Some (refused.BadPort host)) (cond b (Some (refused.Full DRIVER_CONNECTIONS))
-        (cond c (Some (refused.PortsSpent s.last_port s.last_id)) None)) ≡ Some (refused.NoDescriptor n) → IsRoomy why
-    by true b c says = absurd cc
-    by false true c says = absurd cc
-    by false false true says = absurd cc
-    by false false false says = absurd cc
+refusal_roomy host s refusal why is waits = grind (arith, common_steps)
 
 connects_as : (host : ℕ) (s : DriverState) (o : Option ConnectError) → connect_refusal HOST_CID host s ≡ o → AllEnds (Connects s) (elim o [
   | Some refusal ↦ Done (s, Err refusal)
@@ -185,19 +149,7 @@ abbrev Sends : ℕ → DriverState → DriverState × Sent → Type 0
 Sends id s x = (why : WaitsFor) → wait_of (told_send x.1) ≡ Some why → Leaves s x.0 × StopsSend id why s × (HasRoom s → HasRoom x.0 × IsRoomy why)
 
 sends_page : (id : ℕ) (e : DriverEntry) (payload : List ℕ) (s t : DriverState) → SameCore s t → AllEnds (Sends id s) (send_with_page e payload t)
-sends_page id e payload s t same = by (has_page t) refl
-  where
-    none : (why : WaitsFor) → wait_of (told_send (sent.NoDescriptor t.in_flight)) ≡ Some why → StopsSend id why s
-    none why is = subst (λ (w : WaitsFor). StopsSend id w s) (same_Some (waits.NoDescriptor t.in_flight) why is) tt
-
-    by : (b : Bool) → has_page t ≡ b → AllEnds (Sends id s) (cond b (bind (post_packet (payload_bytes e payload t) t)
-        (λ u. Done (with_end (with_payload_sent e.value.end (length payload)) e u, sent.Took (length payload)))) (Done (t, sent.NoDescriptor t.in_flight)))
-    by true has = λ a b why waits. absurd cc
-    by false has = λ why waits. (
-      leaves_core s t same,
-      none why waits,
-      λ room. absurd (no_room t.in_flight t.size has (room_stays s t same room)),
-    )
+sends_page id e payload s t same = grind (arith, common_steps)
 
 sends_credit : (id : ℕ) (bytes : List ℕ) (e : DriverEntry) (credit : ℕ) (s : DriverState) → entry_known_as id s ≡ Some e
     → may_send_of e.value.end ≡ Ok credit → AllEnds (Sends id s) (send_with_credit e credit bytes s)
@@ -245,20 +197,10 @@ sends_as id bytes s None at = by (is_some (gone_known_as id s))
 -- A receive.
 entry_stays : (n : ℕ) (e : DriverEntry) (s : DriverState) (unread : List ℕ) (why : WaitsFor) → e.value.unread ≡ unread
     → wait_of (told_recv (read_of n unread (cond (is_at_end e.value.end) got.End (nothing_read e.value.end.state)))) ≡ Some why → entry_read n e s ≡ s
-entry_stays n e s [] why is waits = by (length e.value.unread == 0) (ap (λ (xs : List ℕ). length xs == 0) is)
-  where
-    by : (b : Bool) → b ≡ true → cond b s (with_connection e.slot (after_read n e.value) s) ≡ s
-    by true so = refl
-    by false so = absurd cc
-entry_stays n e s (x ∷ unread) why is waits = absurd cc
+entry_stays n e s unread why is waits = grind (arith, common_steps)
 
 gone_stays : (n : ℕ) (g : GoneConnection) (unread : List ℕ) (why : WaitsFor) → wait_of (told_recv (read_of n unread (cond (is_at_end g.end) got.End got.Reset))) ≡ Some why → ⊥
-gone_stays n g [] why waits = by (is_at_end g.end) waits
-  where
-    by : (b : Bool) → wait_of (told_recv (cond b got.End got.Reset)) ≡ Some why → ⊥
-    by true is = absurd cc
-    by false is = absurd cc
-gone_stays n g (x ∷ unread) why waits = absurd cc
+gone_stays n g unread why waits = grind (arith, common_steps)
 
 recv_stays : (id n : ℕ) (s : DriverState) (o : Option DriverEntry) (q : Option GoneConnection) (why : WaitsFor)
     → wait_of (told_recv (elim o as (λ _. Received) [
@@ -282,12 +224,7 @@ same_leaves : (s t : DriverState) → t ≡ s → Leaves s t
 same_leaves s t is = subst (λ (x : DriverState). Leaves s x) (sym is) (leaves_none s)
 
 recv_roomy : (r : Received) (why : WaitsFor) → wait_of (told_recv r) ≡ Some why → IsRoomy why
-recv_roomy (got.Got n) why is = absurd cc
-recv_roomy got.Empty why is = subst IsRoomy (same_Some waits.Empty why is) tt
-recv_roomy got.NotOpen why is = subst IsRoomy (same_Some waits.NotOpen why is) tt
-recv_roomy got.End why is = absurd cc
-recv_roomy got.Reset why is = absurd cc
-recv_roomy got.Unknown why is = absurd cc
+recv_roomy r why is = grind (arith, common_steps)
 
 look_roomy : (r : ConnectionState) (why : WaitsFor) → wait_of (told_look r) ≡ Some why → IsRoomy why
 look_roomy seen.Asked why is = subst IsRoomy (same_Some waits.NotOpen why is) tt
@@ -370,20 +307,10 @@ first_waits (says.Got n) ts why waits = absurd cc
 first_waits says.Ends ts why waits = absurd cc
 
 pub rest_waits : (t u : Told) (ts : List Told) (why : WaitsFor) → step_wait (t ∷ u ∷ ts) ≡ Some why → step_wait (u ∷ ts) ≡ Some why
-rest_waits (says.Waits w) u ts why waits = waits
-rest_waits (says.Asked id) u ts why waits = absurd cc
-rest_waits (says.Given id) u ts why waits = absurd cc
-rest_waits (says.Took n) u ts why waits = absurd cc
-rest_waits (says.Got n) u ts why waits = absurd cc
-rest_waits says.Ends u ts why waits = absurd cc
+rest_waits t u ts why waits = grind (arith, common_steps)
 
 only_wait : (t : Told) (why : WaitsFor) → step_wait (t ∷ []) ≡ Some why → wait_of t ≡ Some why
-only_wait (says.Waits w) why is = is
-only_wait (says.Asked id) why is = absurd cc
-only_wait (says.Given id) why is = absurd cc
-only_wait (says.Took n) why is = absurd cc
-only_wait (says.Got n) why is = absurd cc
-only_wait says.Ends why is = absurd cc
+only_wait t why is = grind (arith, common_steps)
 
 pub calls_halt : (script : RunScript) (k : ℕ) (made : List Made) (why : WaitsFor) (old new : Run) → step_wait (told_in made) ≡ Some why
     → MakesCalls script k made old new → Halted (calls_in made) why old.driver new.driver

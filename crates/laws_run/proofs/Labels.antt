@@ -16,12 +16,9 @@ use Rattle.vs_proxy_parts.specs.State.{Handshake}
 use Rattle.laws_tables.specs.Ends.{is_among}
 use Rattle.laws_device.specs.Carried.Streamed.{CountMatches, IsStreamed, Ports, Seen, asks_streams, count_in, heard_at, is_heard, serves}
 use Rattle.laws_device.proofs.Carried.Hosts.{stream_is, there}
+use Rattle.laws_apps.proofs.Placed.{or_second}
 use Rattle.laws_run.specs.Labels.{HasStream}
 use Rattle.vs_header.specs.declared.Kind.TheVariants as kind
-
-or_second : (a b : Bool) → b ≡ true → (a || b) ≡ true
-or_second true b is = refl
-or_second false b is = is
 
 both_so : (a b rest : Bool) → (a ≡ true → b ≡ true) → rest ≡ true → ((not a || b) && rest) ≡ true
 both_so true b rest is all = ap (λ (c : Bool). c && rest) (is refl) ∙ all

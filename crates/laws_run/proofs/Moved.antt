@@ -1,5 +1,6 @@
 -- What a journal tells of the calls by which an app moved bytes: what a reply tells is what was moved.
-use Rattle.std.proofs.Common.{◌≡◌, ◌⊎◌, inl, inr, ℕ, ◌+◌, ◌≤◌, ◌==◌, ◌||◌, ◌&&◌, not, nat_lt, Bool, true, false, cond, List, [], ◌∷◌, ◌++◌, Option, Some, None, Ok, Err}
+use Rattle.std.proofs.lemmas.Grind.{common_steps}
+use Rattle.std.proofs.Common.{◌≡◌, ◌⊎◌, inl, inr, ℕ, ◌+◌, ◌≤◌, ◌==◌, ◌||◌, ◌&&◌, not, nat_lt, Bool, true, false, cond, List, [], ◌∷◌, ◌++◌, Option, Some, None}
 use Rattle.std.proofs.Common.{append_assoc, append-nil, length, length-append, length-drop, drop, length-take, slice_get, refl, sym, ap, subst, ◌∙◌, arith}
 use Rattle.std.{proofs.lemmas.{Bool.{Decides.nat_tests, and_parts, eq-eqb, eqb-true}, Option.same_Some}, specs.List.list_any}
 use Rattle.vs_script.specs.App.{Act, Drain}
@@ -11,11 +12,7 @@ use Rattle.vs_apps_parts.specs.declared.{journal.{Called.Called, Deed.Deed, Entr
 use Rattle.laws_apps.specs.Traces.{AllTell, AtId, IsDrained, IsStopped, TellsOf, id_told, is_shut, shuts}
 use Rattle.laws_run.proofs.Bounding.{is_send, is_recv, is_move, sent_told, got_told, sending, tally, AreFree, follows_went, no_received, ArePlain, at_parts}
 use Rattle.laws_run.specs.Bounds.{calls_of_others, done_at, done_by, early, is_at, is_cut, is_drain, is_over, receives_on, sends_on, was_over, went}
-use Rattle.vs_driver_parts.specs.declared.answers.Accepted.TheVariants as accepted
-use Rattle.vs_driver_parts.specs.declared.answers.ConnectError.TheVariants as refused
-use Rattle.vs_driver_parts.specs.declared.answers.ConnectionState.TheVariants as seen
 use Rattle.vs_driver_parts.specs.declared.answers.Received.TheVariants as got
-use Rattle.vs_driver_parts.specs.declared.answers.Sent.TheVariants as sent
 use Rattle.laws_driver.specs.Carried.Calls as call
 use Rattle.vs_apps_parts.specs.declared.journal.Called.TheVariants as called
 use Rattle.vs_apps_parts.specs.declared.journal.Deed.TheVariants as deed
@@ -36,15 +33,7 @@ tally_after tell id [] journal = omega arith
 tally_after tell id (m ∷ ms) journal = let rest = tally_after tell id ms journal in omega (arith, rest)
 
 plain_made : (script : RunScript) (bytes : List ℕ) (k : ℕ) (c : Called) → let m : Made = made_of script bytes k c in m.id ≡ id_in m.call
-plain_made script bytes k (called.Connect port answer flow) = refl
-plain_made script bytes k (called.Listen port answer) = refl
-plain_made script bytes k (called.Accept port answer flow) = refl
-plain_made script bytes k (called.Send id at from len answer) = refl
-plain_made script bytes k (called.Recv id len from answer) = refl
-plain_made script bytes k (called.Shutdown id bits answer) = refl
-plain_made script bytes k (called.Grow id alloc answer) = refl
-plain_made script bytes k (called.Close id answer) = refl
-plain_made script bytes k (called.LookAt id answer) = refl
+plain_made script bytes k c = grind (arith, common_steps)
 
 both_false : (a b : Bool) → (a || b) ≡ false → (a ≡ false) × (b ≡ false)
 both_false true b is = absurd cc
@@ -213,31 +202,11 @@ module _ (id : ℕ) where
 
 -- What a reply tells is what was moved.
 none_took : (c : GuestCall) (reply : ReplyTo c) → is_send c ≡ false → sent_told (told_by c reply) ≡ 0
-none_took (call.Connect port) (Ok id) is = refl
-none_took (call.Connect port) (Err (refused.Full slots)) is = refl
-none_took (call.Connect port) (Err (refused.NoDescriptor n)) is = refl
-none_took (call.Connect port) (Err _) is = refl
-none_took (call.Accept port) (accepted.Conn id) is = refl
-none_took (call.Accept port) accepted.None is = refl
-none_took (call.Accept port) accepted.NotListening is = refl
-none_took (call.Recv id n) (got.Got k, bytes) is = refl
-none_took (call.Recv id n) (got.Empty, bytes) is = refl
-none_took (call.Recv id n) (got.NotOpen, bytes) is = refl
-none_took (call.Recv id n) (_, bytes) is = refl
-none_took (call.LookAt id) seen.Asked is = refl
-none_took (call.LookAt id) _ is = refl
-none_took (call.Send id bytes) reply is = absurd cc
-none_took _ reply is = refl
+none_took c reply is = grind (arith, common_steps)
 
 took_so : (bytes : List ℕ) (id : ℕ) (r : Sent) → ((n : ℕ) → told_send r ≡ says.Took n → n ≤ length bytes)
     → sent_told (told_send r) ≤ length (bytes_sent (call.Send id bytes) r)
-took_so bytes id (sent.Took n) few =
-    let less = few n refl in
-    let len = length-take n bytes in omega (arith, less, len)
-took_so bytes id (sent.NoCredit tx alloc fwd) few = omega arith
-took_so bytes id (sent.NoDescriptor m) few = omega arith
-took_so bytes id sent.NotOpen few = omega arith
-took_so bytes id _ few = omega arith
+took_so bytes id r few = grind (arith, common_steps)
 
 pub sent_enough : (id next : ℕ) (ds : List DriverEntry) (js : Journal) → AllTell js next ds → tally sent_told id js ≤ length (sent_as id js)
 sent_enough id next ds [] tell = omega arith
@@ -261,22 +230,7 @@ got_so got.NotOpen = omega arith
 got_so _ = omega arith
 
 none_got : (c : GuestCall) (reply : ReplyTo c) → (c ≡ c) → is_recv c ≡ false → got_told (told_by c reply) ≡ 0
-none_got (call.Connect port) (Ok id) same is = refl
-none_got (call.Connect port) (Err (refused.Full slots)) same is = refl
-none_got (call.Connect port) (Err (refused.NoDescriptor n)) same is = refl
-none_got (call.Connect port) (Err _) same is = refl
-none_got (call.Accept port) (accepted.Conn id) same is = refl
-none_got (call.Accept port) accepted.None same is = refl
-none_got (call.Accept port) accepted.NotListening same is = refl
-none_got (call.Send id bytes) (sent.Took n) same is = refl
-none_got (call.Send id bytes) (sent.NoCredit tx alloc fwd) same is = refl
-none_got (call.Send id bytes) (sent.NoDescriptor n) same is = refl
-none_got (call.Send id bytes) sent.NotOpen same is = refl
-none_got (call.Send id bytes) _ same is = refl
-none_got (call.LookAt id) seen.Asked same is = refl
-none_got (call.LookAt id) _ same is = refl
-none_got (call.Recv id n) reply same is = absurd cc
-none_got _ reply same is = refl
+none_got c reply same is = grind (arith, common_steps)
 
 received_after : (id : ℕ) (ms journal : Journal) → length (received_by id (ms ++ journal)) ≡ length (received_by id journal) + length (received_by id ms)
 received_after id [] journal = omega arith
@@ -320,13 +274,7 @@ received_enough script bytes id (e ∷ es) stand =
 
 -- A drain that is done came to the end.
 any_after : (xs ys : List Act) → list_any is_drain (xs ++ ys) ≡ (list_any is_drain xs || list_any is_drain ys)
-any_after [] ys = refl
-any_after (x ∷ xs) ys = by (is_drain x) (any_after xs ys)
-  where
-    by : (b : Bool) → list_any is_drain (xs ++ ys) ≡ (list_any is_drain xs || list_any is_drain ys)
-        → (b || list_any is_drain (xs ++ ys)) ≡ ((b || list_any is_drain xs) || list_any is_drain ys)
-    by true rest = refl
-    by false rest = rest
+any_after xs ys = grind (arith, common_steps)
 
 module _ (script : RunScript) (bytes : List ℕ) (k id : ℕ) where
   early_from : (es : List Entry) (older own : Journal) → is_shut id (calls_of_others k script bytes es) ≡ false → is_shut id older ≡ is_shut id own

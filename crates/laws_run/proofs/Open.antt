@@ -1,4 +1,5 @@
 -- At rest the device has a connection for each stream with a label that its proxy hasn't closed, and no other.
+use Rattle.std.proofs.lemmas.Grind.{common_steps}
 use Rattle.std.proofs.Common.{◌≡◌, ◌≢◌, ◌+◌, ◌-◌, ◌<◌, ◌==◌, ◌||◌, ◌&&◌, ℕ, zero, suc, Bool, true, false, cond, List, [], ◌∷◌, length, map, Option, Some, None, Contains, slice_get}
 use Rattle.std.proofs.{Common.{slice_index_or, refl, sym, ap, subst, ◌∙◌, arith, ◌≤◌, ◌++◌, append-nil}, lemmas.{Bool.{Decides.nat_tests, and_parts}, Option.get_or_from_slice_get}}
 use Rattle.std.proofs.lemmas.{Option.{same_Some, slice_get-get_or, slice_get_within}, List.Elements.{All-append, All-contains, All-head, All-map, All-tail}}
@@ -32,12 +33,7 @@ flow_or_not f g = (same_is f g, λ is. ap (same_flow f) (sym is) ∙ same_self f
 
 -- A connection whose stream is open.
 pub open_stream : (c : Connection) (h : HostContents) → stream_open c h ≡ true → (s : Stream) × (stream_of c h ≡ Some s) × (is_open_in s.state ≡ true)
-open_stream c h is = by (stream_of c h) refl is
-  where
-    by : (o : Option Stream) → stream_of c h ≡ o → option_map_or (λ s. is_open_in s.state) o false ≡ true
-        → (s : Stream) × (stream_of c h ≡ Some s) × (is_open_in s.state ≡ true)
-    by None at is = absurd cc
-    by (Some s) at is = (s, at, is)
+open_stream c h is = grind (arith, common_steps)
 
 -- The labels of open streams: they are those that a flow's open stream has.
 label_open : (f : Flow) (xs : List Stream) → list_any (same_flow f) (filter_map open_label xs) ≡ list_any (is_open_on f) xs

@@ -1,11 +1,12 @@
 -- A stage of writing that wrote nothing tried each stream to which something is to be written, and each gave Again.
+use Rattle.std.proofs.lemmas.Grind.{common_steps}
 use Rattle.std.proofs.Common.{◌≡◌, ◌≤◌, ◌==◌, ◌&&◌, ◌||◌, not, ◌⊎◌, inl, inr, ℕ, Bool, true, false, cond, List, [], ◌∷◌, ◌++◌, length, take, Option, Some, None, refl, sym, ap}
-use Rattle.std.{proofs.{Common.{subst, ◌∙◌, arith}, lemmas.{Bool.{Decides.nat_tests, eqb-true}, Option.same_Some}}, specs.{Option.{option_map, option_map_or}, Prelude.min}}
-use Rattle.vs_contents.specs.{CallTree.{Ask, Done, bind, for_each}, Contents.Exposes}
+use Rattle.std.{proofs.{Common.{subst, ◌∙◌, arith}, lemmas.{Bool.{eqb-true}}}, specs.{Option.{option_map}}}
+use Rattle.vs_contents.specs.{CallTree.{Ask, Done, bind, for_each}}
 use Rattle.vs_conn.specs.End.{with_shut}
 use Rattle.vs_flow.specs.Table.{Table, entry_under, slots, with_value}
-use Rattle.vs_outside.specs.Host.{HostContents, IsWritten, Stream, after_close, after_failed, after_shut_write, after_write, called, fails_now, stream_at, taken_of}
-use Rattle.vs_outside.specs.{Host.{with_shut_write_call, write_of}, declared.host_net.StreamWrite.StreamWrite}
+use Rattle.vs_outside.specs.Host.{HostContents, IsWritten, after_close, after_failed, after_shut_write, after_write, called, fails_now}
+use Rattle.vs_outside.specs.{Host.{with_shut_write_call}, declared.host_net.StreamWrite.StreamWrite}
 use Rattle.vs_device_parts.specs.{Calls.{Allows, CloseStream, DeviceTree, HostMoves, ShutWrite, Situation, WriteStream}, Playing.Runs, Connections.{after_shut, after_written}}
 use Rattle.vs_device_parts.specs.{Connections.{cut_off, with_connection, with_fault}, Streams.{Writing, closing, is_written_out, pump_of, pump_slot, shut_write, to_write}}
 use Rattle.vs_device_parts.{specs.{Streams.{write_answered, write_pending}, State.{DeviceConnection, DeviceEntry, DeviceState}}, proofs.Under.has_slot}
@@ -27,13 +28,7 @@ record Step (N : Relation) (w : Writing) (c : Situation) (x : Writing) (d : Situ
 
 step_then : (N M K : Relation) (w : Writing) (c : Situation) (v : Writing) (d : Situation) (x : Writing) (e : Situation)
     → (N w c v d → M v d x e → K w c x e) → Step N w c v d → Step M v d x e → Step K w c x e
-step_then N M K w c v d x e gives a b = record {
-  rises = (let first = a.rises in let then = b.rises in omega (arith, first, then));
-  same = λ wrote.
-      let first = a.rises in
-      let then = b.rises in
-      gives (a.same (omega (arith, first, then, wrote))) (b.same (omega (arith, first, then, wrote)));
-}
+step_then N M K w c v d x e gives a b = grind (arith, common_steps)
 
 abbrev OwnFull : ℕ → Writing → Situation → Type 0
 OwnFull n x d = (id : ℕ) → writes_under n x.state.table ≡ Some id → IsToldFull id d.host
@@ -92,65 +87,13 @@ still_none slot w c none = record {
 untold : (o : Option HostContents) → o ≡ None → (id : ℕ) → IsToldFull id o
 untold o none id = λ h there. absurd (let no : ◌≡◌ {A = Option HostContents} None (Some h) = sym none ∙ there in cc)
 
-took_some : (len n : ℕ) (s : Stream) → ◌≡◌ {A = StreamWrite} (write.Took n) (write_of len s) → n ≡ 0 → ⊥
-took_some len n s is none = by s.host_closed (taken_of len s == 0) refl is
-  where
-    by : (a b : Bool) → (taken_of len s == 0) ≡ b → ◌≡◌ {A = StreamWrite} (write.Took n) (cond a write.Closed (cond b write.Again (write.Took (taken_of len s)))) → ⊥
-    by true b zero says = absurd cc
-    by false true zero says = absurd cc
-    by false false zero says = let same : n ≡ taken_of len s = cc in absurd (grind (arith, nat_tests, same, zero, none))
-
 took_none : (stream n : ℕ) (bytes : List ℕ) (c d : Situation)
     → HostMoves false (IsWritten stream (length bytes) (write.Took n)) (after_write stream bytes (write.Took n)) c d → n ≡ 0 → d.host ≡ None
-took_none stream n bytes c d moves none = by c.host moves.host
-  where
-    at : (h : HostContents) (b : Bool) (o : Option Stream)
-        → ◌≡◌ {A = StreamWrite} (write.Took n) (cond b write.Failed (option_map_or (write_of (length bytes)) o write.Again)) → ⊥
-    at h true o is = absurd cc
-    at h false None is = absurd cc
-    at h false (Some s) is = took_some (length bytes) n s is none
-
-    by : (o : Option HostContents) → Exposes o d.host (IsWritten stream (length bytes) (write.Took n)) (after_write stream bytes (write.Took n)) → d.host ≡ None
-    by None exposes = exposes
-    by (Some g) exposes = absurd (at g (fails_now g) (stream_at stream g) exposes.0)
-
-again_full : (len : ℕ) (s : Stream) → (len == 0) ≡ false → ◌≡◌ {A = StreamWrite} write.Again (write_of len s) → IsFull s
-again_full len s some is = by s.host_closed s.room refl is
-  where
-    min_none : (n m : ℕ) → (n == 0) ≡ false → (min n m == 0) ≡ true → m ≡ 0
-    min_none n m a b = grind (arith, nat_tests, a, b)
-
-    at : (room : ℕ) (b : Bool) → (min len room == 0) ≡ b → ◌≡◌ {A = StreamWrite} write.Again (cond b write.Again (write.Took (min len room)))
-        → ◌≡◌ {A = Option ℕ} (Some room) (Some 0)
-    at room true zero says = ap (λ (n : ℕ). let o : Option ℕ = Some n in o) (min_none len room some zero)
-    at room false zero says = absurd cc
-
-    none : (b : Bool) → (len == 0) ≡ b → ◌≡◌ {A = StreamWrite} write.Again (cond b write.Again (write.Took len)) → b ≡ true
-    none true zero says = refl
-    none false zero says = absurd cc
-
-    by : (a : Bool) (o : Option ℕ) → s.room ≡ o
-        → ◌≡◌ {A = StreamWrite} write.Again (cond a write.Closed (cond (option_map_or (λ room. min len room) o len == 0) write.Again
-        (write.Took (option_map_or (λ room. min len room) o len)))) → IsFull s
-    by true o room says = absurd cc
-    by false (Some r) room says = room ∙ at r (min len r == 0) refl says
-    by false None room says = absurd (let no : true ≡ false = sym (none (len == 0) refl says) ∙ some in cc)
+took_none stream n bytes c d moves none = grind (arith, common_steps)
 
 told_full : (stream : ℕ) (bytes : List ℕ) (c d : Situation) → (length bytes == 0) ≡ false
     → HostMoves false (IsWritten stream (length bytes) write.Again) (after_write stream bytes write.Again) c d → IsToldFull stream d.host
-told_full stream bytes c d some moves = by c.host moves.host
-  where
-    at : (h : HostContents) (b : Bool) (o : Option Stream) → stream_at stream h ≡ o
-        → ◌≡◌ {A = StreamWrite} write.Again (cond b write.Failed (option_map_or (write_of (length bytes)) o write.Again)) → IsFullAt stream h
-    at h true o is says = absurd cc
-    at h false None is says = λ s there. absurd (let no : None ≡ Some s = sym is ∙ there in cc)
-    at h false (Some x) is says = λ s there. subst IsFull (same_Some x s (sym is ∙ there)) (again_full (length bytes) x some says)
-
-    by : (o : Option HostContents) → Exposes o d.host (IsWritten stream (length bytes) write.Again) (after_write stream bytes write.Again) → IsToldFull stream d.host
-    by None exposes = untold d.host exposes stream
-    by (Some g) exposes = λ h there.
-        subst (IsFullAt stream) (same_Some (after_write stream bytes write.Again g) h (sym exposes.1 ∙ there))
-        (at g (fails_now g) (stream_at stream g) refl exposes.0)
+told_full stream bytes c d some moves = grind (arith, common_steps)
 
 full_failed : (i : ℕ) (h : HostContents) → IsFullAt i h → IsFullAt i (after_failed h)
 full_failed i h full = by (fails_now h)

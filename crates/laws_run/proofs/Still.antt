@@ -10,7 +10,7 @@ use Rattle.vs_replies.specs.declared.Reply.{Reply}
 use Rattle.vs_ring_port.specs.{Contents.RingContents, DriverCalls.{LoadCid, Reap}, declared.queue.Queue.{Queue, TheVariants.{Event, Rx, Tx}}}
 use Rattle.vs_driver_parts.specs.Conversations.{DriverTree, Round, after_paying, all_taken, event_reaped, event_taken, goes_on_with, has_page, one_put, owed_bytes, packet_reaped}
 use Rattle.vs_driver_parts.specs.Conversations.{pay_all, pay_and_publish, pay_slot, poll_of, poll_packets, poll_puts, poll_reaps, polled, publish_and_pay, published, put_all}
-use Rattle.vs_driver_parts.specs.Conversations.{put_owed, put_owed_of, put_replies, put_reply, put_reply_of, reap_all, reap_one, reaped, reply_header, stage_of, stage_packet}
+use Rattle.vs_driver_parts.specs.Conversations.{put_owed, put_owed_of, put_replies, put_reply, put_reply_of, reap_all, reap_one, reply_header, stage_of, stage_packet}
 use Rattle.vs_driver_parts.specs.{Conversations.{staged_again, start, take_all, take_event, take_packet}, Playing.{Plays, RingAllows}, Receiving.{after_reset, is_reset_event}}
 use Rattle.vs_driver_parts.specs.{Receiving.on_page, State.{DriverEntry, DriverState}, declared.answers.Polled.Polled}
 use Rattle.laws_apps.specs.Runs.{poll_moved}
@@ -50,15 +50,7 @@ stages : (queue : Queue) (page : List ℕ) (s : DriverState) → AllEnds (SameCo
 stages queue page s = λ a. same_if (s.staged + 1 == STAGED_MAX) _ _ (SameCore s) (λ b. (refl, omega arith)) (refl, omega arith)
 
 reaps_one : (s : DriverState) → AllEnds (λ (x : DriverState × Bool). SameCore s x.0) (reap_one s)
-reaps_one s = by (s.in_flight == 0)
-  where
-    answered : (page : Option (List ℕ)) → SameCore s (reaped s page).0
-    answered None = core_same s
-    answered (Some page) = (refl, omega arith)
-
-    by : (b : Bool) → EndsIn (λ (x : DriverState × Bool). SameCore s x.0) (cond b (Done (s, false)) (Ask (Reap Tx) (λ page. Done (reaped s page))))
-    by true = core_same s
-    by false = λ page. answered page
+reaps_one s = grind (arith, common_steps)
 
 pub reaps_all : (s : DriverState) → AllEnds (SameCore s) (reap_all s)
 reaps_all s = loop s.in_flight s

@@ -1,4 +1,5 @@
 -- Each connect and accept that an app carried out has a call of its own, which opened a connection that has a line, or was refused.
+use Rattle.std.proofs.lemmas.Grind.{common_steps}
 use Rattle.std.proofs.Common.{◌≡◌, ◌+◌, ◌≤◌, ◌==◌, ◌||◌, ℕ, zero, suc, Bool, true, false, cond, List, [], ◌∷◌, ◌++◌, Option, Some, None, Ok, Err, length, length-append, refl, sym}
 use Rattle.std.proofs.{Common.{ap, subst, ◌∙◌, arith, slice_get, take}, lemmas.Bool.eqb-true}
 use Rattle.vs_script.specs.App.{Accept, Act, Connect}
@@ -80,15 +81,7 @@ module _ (acts : List Act) where
   gains _ ms p journal at calls goes has = let more = tried_more ms journal in omega (arith, more, has)
 
   pending_least : (p : Progress) (act : Act) → slice_get acts p.at ≡ Some act → pending acts p ≤ opens act
-  pending_least p act at = by p.asked (ap (λ (o : Option Act). asks o) at) (of act)
-    where
-      of : (a : Act) → asks (Some a) ≤ opens a
-      of (Connect port) = omega arith
-      of _ = omega arith
-
-      by : (b : Bool) → asks (slice_get acts p.at) ≡ asks (Some act) → asks (Some act) ≤ opens act → cond b (asks (slice_get acts p.at)) 0 ≤ opens act
-      by true is most = omega (arith, is, most)
-      by false is most = omega arith
+  pending_least p act at = grind (arith, common_steps)
 
   step_has : (act : Act) (ms : List Made) (p : Progress) (journal : Journal) → slice_get acts p.at ≡ Some act → calls_in ms ≡ calls_next act p → Has p journal
       → (o : Option WaitsFor) → step_wait (told_in ms) ≡ o

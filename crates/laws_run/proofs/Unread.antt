@@ -1,8 +1,9 @@
 -- What of a connection's payload its host's program has still to read, where the device holds many bytes of it.
-use Rattle.std.proofs.Common.{◌≡◌, ◌⊎◌, inl, inr, ℕ, ◌+◌, ◌-◌, ◌≤◌, ◌<◌, ◌%◌, ◌^◌, ◌==◌, ◌&&◌, ◌||◌, not, Bool, true, false, cond, List, [], ◌∷◌, ◌++◌, length, Contains, Some, Ok}
-use Rattle.std.proofs.{Common.{Err, None, Option, codes, decimal, refl, sym, ap, subst, ◌∙◌, arith, length-append}, lemmas.{Bool.Decides.nat_tests, List.Elements.All-contains}}
+use Rattle.std.proofs.lemmas.Grind.{common_steps}
+use Rattle.std.proofs.Common.{◌≡◌, ◌⊎◌, inl, inr, ℕ, ◌+◌, ◌-◌, ◌≤◌, ◌<◌, ◌%◌, ◌^◌, ◌==◌, ◌||◌, not, Bool, true, false, cond, List, [], ◌∷◌, ◌++◌, length, Contains, Ok}
+use Rattle.std.proofs.{Common.{Option, codes, decimal, refl, sym, ap, subst, ◌∙◌, arith, length-append}, lemmas.{List.Elements.All-contains}}
 use Rattle.vs_credit.specs.Credit.{free_of, unread_of}
-use Rattle.vs_conn.specs.{End.{ConnectionEnd, may_send_of, state_may_send}, Follows.{Follows, IsLeftBy}, Shut.is_both, declared.end.State.{State, TheVariants.{Asked, Ended, Live}}}
+use Rattle.vs_conn.specs.{End.{ConnectionEnd, may_send_of}, Follows.{Follows, IsLeftBy}, Shut.is_both, declared.end.State.{State, TheVariants.{Live}}}
 use Rattle.vs_flow.specs.{Connection.Connection, Flow.host_asks, Table.Table, declared.flow.Flow.Flow}
 use Rattle.vs_outside.specs.{Host.HostContents, HostBytes.{after_line, host_read}}
 use Rattle.vs_uds.specs.OkLine.{ok_text}
@@ -11,20 +12,14 @@ use Rattle.vs_page.{specs.{Fair.{IsFairLog, current, number_of, payload_got}, Lo
 use Rattle.vs_page.proofs.Present.{present_got}
 use Rattle.vs_device_parts.specs.State.{DeviceConnection, DeviceEntry}
 use Rattle.vs_proxy_parts.specs.State.{Handshake}
-use Rattle.laws_tables.{specs.{Ends.{Ends, ends_of, is_among, replied, is_new_in}, Heard.heard_of, Matches.{IsBefore, IsLeftOn, Matches}, Steps.HasEnd}, proofs.Fair.heard_less}
+use Rattle.laws_tables.{specs.{Ends.{Ends, ends_of, is_among, replied, is_new_in}, Heard.heard_of, Matches.{IsLeftOn, Matches}, Steps.HasEnd}, proofs.Fair.heard_less}
 use Rattle.laws_device.{specs.Carried.Streamed.{IsJoined, IsStreamed, Ports, connection_of, count_in, gives_in, has_line, look}, proofs.Carried.{Hosts.there, Lines.{after_is_rest, ok_front}}}
 use Rattle.laws_device.proofs.Carried.Lines.{after_longer, line_ends, line_whole, rest_of}
 use Rattle.laws_rest.proofs.Hosts.{read_own}
-use Rattle.vs_conn.specs.declared.end.Stop.TheVariants as stop
 
 -- What an end that may send, but lacks credit.
 pub no_free : (e : ConnectionEnd) → e.state ≡ Live → may_send_of e ≡ Ok 0 → (free_of e.credit ≡ 0) × (e.peer.receive ≡ false)
-no_free e live says = by e.own.send e.peer.receive refl (sym (ap (λ (st : State). state_may_send st e) live) ∙ says)
-  where
-    by : (a b : Bool) → e.peer.receive ≡ b → cond (a || b) (Err stop.ShutDown) (Ok (free_of e.credit)) ≡ Ok 0 → (free_of e.credit ≡ 0) × (e.peer.receive ≡ false)
-    by true b is says = absurd cc
-    by false true is says = absurd cc
-    by false false is says = ((let same : free_of e.credit ≡ 0 = cc in same), is)
+no_free e live says = grind (arith, common_steps)
 
 -- The connection of an entry whose end is Live.
 pub live_connection : (y : DeviceEntry) (log : Log) → y.value.end.state ≡ Live → connection_of y log ≡ current Device y.flow log
@@ -34,13 +29,7 @@ live_connection y log live = ap (λ (st : State). let n = number_of Device y.flo
 -- An end has no more unread than it got on its flow.
 pub followed : (side : Side) (h : History) (kind : Option ℕ) (owed : Bool) (ends : List ConnectionEnd) (e : ConnectionEnd) → IsLeftOn Device side h kind owed ends
     → ends ≡ e ∷ [] → e.state ≡ Live → Follows side (puts h) (gots h) e
-followed side h (Some kind) false ends e held is live =
-    let same : held.0 ≡ e = (let one = sym held.1 ∙ is in cc) in subst (λ (x : ConnectionEnd). Follows side (puts h) (gots h) x) same held.2
-followed side h None false ends e left is live =
-    let before : IsBefore Device side h (e ∷ []) = subst (λ (es : List ConnectionEnd). IsBefore Device side h es) is left in
-    let no : Asked ≡ Live = sym (ap (λ (x : ConnectionEnd). x.state) before.1.asks) ∙ live in absurd cc
-followed side h (Some kind) true ends e left is live = absurd (let no : [] ≡ e ∷ [] = sym left.0 ∙ is in cc)
-followed side h None true ends e left is live = absurd (let no : [] ≡ e ∷ [] = sym left.0 ∙ is in cc)
+followed side h kind owed ends e held is live = grind (arith, common_steps)
 
 unread_most : (rx fwd told all : ℕ) → fwd < 2 ^ 32 → rx ≡ all % 2 ^ 32 → told + (fwd + 2 ^ 32 - told % 2 ^ 32) % 2 ^ 32 ≤ all
     → (rx + 2 ^ 32 - fwd) % 2 ^ 32 ≤ all
@@ -62,18 +51,7 @@ module _ (first : ℕ) (part : Ends) (log : Log) (matches : Matches Device first
 
   -- Where its peer neither sends nor receives any more, something is unread: else it would be over.
   pub some_unread : is_both e.peer ≡ true → 1 ≤ unread_of e.credit
-  some_unread both = by (unread_of e.credit == 0) refl
-    where
-      follows : Follows (side_of Device f) (puts (heard_of Device first f log)) (gots (heard_of Device first f log)) e
-      follows = followed (side_of Device f) (heard_of Device first f log) (left_kind Device first f log) (is_among f (replied part.replies)) (ends_of f part.entries) e
-          (matches.flows.on f) has live
-
-      by : (b : Bool) → (unread_of e.credit == 0) ≡ b → 1 ≤ unread_of e.credit
-      by false some = grind (arith, nat_tests, some)
-      by true none =
-          let over : e.state ≡ Ended = (follows.left (λ over. absurd (let no : Ended ≡ Live = sym over ∙ live in cc))).settled
-          (ap (λ (b : Bool). b && (unread_of e.credit == 0)) both ∙ none) in
-          absurd (let no : Ended ≡ Live = sym over ∙ live in cc)
+  some_unread both = grind (arith, common_steps)
 
 -- Of what a stream was given, the lines aside, and what is pending for it.
 no_rest : (xs : List ℕ) → has_line xs ≡ false → rest_of xs ≡ []

@@ -1,6 +1,6 @@
 -- What a packet adds to the payload of connections, where the log is fair with it: only the present connection of its flow gets any.
 use Rattle.std.proofs.Common.{◌≡◌, ℕ, ◌+◌, ◌==◌, ◌&&◌, Bool, true, false, cond, List, [], ◌∷◌, ◌++◌, length, refl, sym, ap, subst, ◌∙◌, arith, length-append}
-use Rattle.std.proofs.lemmas.Bool.Decides.{nat_tests}
+use Rattle.std.proofs.lemmas.{Bool.Decides.nat_tests, Grind.common_steps}
 use Rattle.vs_flow.specs.{Connection.Connection, Flow.same_flow, declared.flow.Flow.Flow}
 use Rattle.laws_history.specs.{declared.packet.Packet.Packet, Packets.{is_clean_rst, is_request}, Again.count, History.{Answerer, Asker, Got, History, Put, Side, gots, peer, puts}}
 use Rattle.vs_page.specs.{Fair.{IsFairLog, asked_by, current, instance_from, number_of, payload_got, payload_of, payload_put}, Log.{Log, Role, and_then, flow_got, flow_put}}
@@ -15,20 +15,17 @@ index Answerer p ps = count is_clean_rst ps + 1
 
 with_one : (side : Side) (k : ℕ) (p : Packet) (ps : List Packet)
     → instance_from side k (p ∷ ps) ≡ cond (index side p ps == k) (p ∷ instance_from side k ps) (instance_from side k ps)
-with_one Asker k p ps = refl
-with_one Answerer k p ps = refl
+with_one side k p ps = grind (arith, common_steps)
 
 no_bytes : (xs ys : List ℕ) → xs ≡ xs ++ ys → ys ≡ []
 no_bytes xs [] is = refl
 no_bytes xs (y ∷ ys) is = let longer = length-append xs (y ∷ ys) in let same = ap length is in absurd (omega (arith, longer, same))
 
 no_more : (b : Bool) (xs bytes : List ℕ) → bytes ≡ [] → xs ≡ xs ++ cond b bytes []
-no_more true xs bytes none = nothing_more xs ∙ ap (λ (ys : List ℕ). xs ++ ys) (sym none)
-no_more false xs bytes none = nothing_more xs
+no_more b xs bytes none = grind (arith, common_steps)
 
 payload_with : (b : Bool) (p : Packet) (ps : List Packet) → payload_of (cond b (p ∷ ps) ps) ≡ payload_of ps ++ cond b p.payload []
-payload_with true p ps = refl
-payload_with false p ps = nothing_more (payload_of ps)
+payload_with b p ps = grind (arith, common_steps)
 
 turned : (a b : ℕ) → (a == b) ≡ (b == a)
 turned a b = grind (arith, nat_tests)
@@ -60,12 +57,10 @@ adds_by side p ps now bytes was is k = ap payload_of (with_one side k p ps) ∙ 
 
 -- The number of the present connection stays, but at a REQUEST.
 pub asked_still : (side : Side) (p : Packet) (put got : List Packet) → is_request p ≡ false → asked_by side (p ∷ put) got ≡ asked_by side put got
-asked_still Asker p put got plain = ap (λ (b : Bool). cond b (count is_request put + 1) (count is_request put)) plain
-asked_still Answerer p put got plain = refl
+asked_still side p put got plain = grind (arith, common_steps)
 
 pub asked_after : (side : Side) (p : Packet) (put got : List Packet) → is_request p ≡ false → asked_by side put (p ∷ got) ≡ asked_by side put got
-asked_after Asker p put got plain = refl
-asked_after Answerer p put got plain = ap (λ (b : Bool). cond b (count is_request got + 1) (count is_request got)) plain
+asked_after side p put got plain = grind (arith, common_steps)
 
 module _ (role : Role) (p : Packet) (log : Log) (plain : is_request p ≡ false) (was : IsFairLog role log) where
   -- A packet that is put.
@@ -139,56 +134,27 @@ module _ (role : Role) (p : Packet) (log : Log) (plain : is_request p ≡ false)
         by false is = nothing_more (payload_got role c log)
 
 -- A packet without payload adds none.
-empty_by : (side : Side) (k : ℕ) (p : Packet) (ps : List Packet) → p.payload ≡ []
-    → payload_of (instance_from side k ps) ≡ payload_of (instance_from side k (p ∷ ps))
-empty_by side k p ps none =
-    no_more (index side p ps == k) (payload_of (instance_from side k ps)) p.payload none
-    ∙ sym (ap payload_of (with_one side k p ps) ∙ payload_with (index side p ps == k) p (instance_from side k ps))
-
 pub put_nothing : (role : Role) (p : Packet) (log : Log) → p.payload ≡ [] → (c : Connection) → payload_put role c log ≡ payload_put role c (PutPacket p ∷ log)
-put_nothing role p log none c = by (same_flow c.flow (flow_put role p))
-  where
-    by : (b : Bool) → payload_put role c log
-        ≡ payload_of (instance_from (side_of role c.flow) c.number (puts (cond b (Put p ∷ whole_of role c.flow log) (whole_of role c.flow log))))
-    by true = empty_by (side_of role c.flow) c.number p (puts (whole_of role c.flow log)) none
-    by false = refl
+put_nothing role p log none c = grind (arith, common_steps)
 
 pub got_nothing : (role : Role) (p : Packet) (log : Log) → p.payload ≡ [] → (c : Connection) → payload_got role c log ≡ payload_got role c (GotPacket p ∷ log)
-got_nothing role p log none c = by (same_flow c.flow (flow_got role p))
-  where
-    by : (b : Bool) → payload_got role c log
-        ≡ payload_of (instance_from (peer (side_of role c.flow)) c.number (gots (cond b (Got p ∷ whole_of role c.flow log) (whole_of role c.flow log))))
-    by true = empty_by (peer (side_of role c.flow)) c.number p (gots (whole_of role c.flow log)) none
-    by false = refl
+got_nothing role p log none c = grind (arith, common_steps)
 
 -- What was put isn't changed by a packet that is got, nor what was got by one that is put.
-puts_still : (b : Bool) (p : Packet) (h : History) → puts (cond b (Got p ∷ h) h) ≡ puts h
-puts_still true p h = refl
-puts_still false p h = refl
-
-gots_still : (b : Bool) (p : Packet) (h : History) → gots (cond b (Put p ∷ h) h) ≡ gots h
-gots_still true p h = refl
-gots_still false p h = refl
-
 pub put_over_got : (role : Role) (p : Packet) (log : Log) (c : Connection) → payload_put role c (GotPacket p ∷ log) ≡ payload_put role c log
-put_over_got role p log c =
-    ap (λ (ps : List Packet). payload_of (instance_from (side_of role c.flow) c.number ps)) (puts_still (same_flow c.flow (flow_got role p)) p (whole_of role c.flow log))
+put_over_got role p log c = grind (arith, common_steps)
 
 pub got_over_put : (role : Role) (p : Packet) (log : Log) (c : Connection) → payload_got role c (PutPacket p ∷ log) ≡ payload_got role c log
-got_over_put role p log c =
-    ap (λ (ps : List Packet). payload_of (instance_from (peer (side_of role c.flow)) c.number ps))
-    (gots_still (same_flow c.flow (flow_put role p)) p (whole_of role c.flow log))
+got_over_put role p log c = grind (arith, common_steps)
 
 -- The number of a flow's present connection stays at all packets but REQUESTs.
 number_put_by : (side : Side) (p : Packet) (w : History) (b : Bool) → is_request p ≡ false
     → let v : History = cond b (Put p ∷ w) w in asked_by side (puts v) (gots v) ≡ asked_by side (puts w) (gots w)
-number_put_by side p w true plain = asked_still side p (puts w) (gots w) plain
-number_put_by side p w false plain = refl
+number_put_by side p w b plain = grind (arith, common_steps)
 
 number_got_by : (side : Side) (p : Packet) (w : History) (b : Bool) → is_request p ≡ false
     → let v : History = cond b (Got p ∷ w) w in asked_by side (puts v) (gots v) ≡ asked_by side (puts w) (gots w)
-number_got_by side p w true plain = asked_after side p (puts w) (gots w) plain
-number_got_by side p w false plain = refl
+number_got_by side p w b plain = grind (arith, common_steps)
 
 pub number_put : (role : Role) (p : Packet) (log : Log) (f : Flow) → is_request p ≡ false → number_of role f (PutPacket p ∷ log) ≡ number_of role f log
 number_put role p log f plain = number_put_by (side_of role f) p (whole_of role f log) (same_flow f (flow_put role p)) plain

@@ -12,12 +12,8 @@ use Rattle.laws_tables.specs.Both.{Pays, PutsEvent, Replies, Seat, Sends, Shuts,
 use Rattle.laws_tables.specs.{Both.{answered, at, decided, happens, run, start, with_seat}, Steps.{HasEnd, is_overrun, owed_on, payload_on, reply_on, request_on}, Ends.Ends}
 use Rattle.laws_tables.{specs.{Ends.{answer_kind, ends_of}, Heard.{IsInOrder, IsOrderedLog, heard_of}, Matches.Matches}, proofs.Keeps.{accepts, asks, changes, drops, has_room}}
 use Rattle.laws_tables.proofs.Keeps.{ignores, makes_reset, named_kind, opens, opens_fair, pays, pays_fair, puts_event, refuses, replies, replies_fair, sends, sends_fair}
-use Rattle.laws_tables.proofs.{Keeps.{start_matches, takes, takes_event, takes_reset}, Fair.{fair_ordered, got_formed, got_is_taken, got_not_refused, heard_all}}
+use Rattle.laws_tables.proofs.{Keeps.{takes, takes_event, takes_reset}, Fair.{fair_ordered, got_formed, got_is_taken, got_not_refused, heard_all}}
 use Rattle.laws_tables.proofs.{Fair.{older_ordered, ordered_in_order}, Tables.only_end}
-
-by_role : (P : Role → Type 0) → P Driver → P Device → (role : Role) → P role
-by_role P a b Driver = a
-by_role P a b Device = b
 
 -- One seat by itself.
 record IsKept (role : Role) (first : ℕ) (w : Seat) : Type 0 where
@@ -31,16 +27,7 @@ tie_back Device first b s = s.ties Driver
 
 sound_with : (role : Role) (first : ℕ) (w : Seat) (b : Both) → IsKept role first w → HasGotAll w.log (at (other_role role) b).log
     → HasGotAll (at (other_role role) b).log w.log → IsSound first b → IsSound first (with_seat role w b)
-sound_with Driver first w b k here there s = record {
-  matches = by_role _ k.matches (s.matches Device);
-  fair = by_role _ k.fair (s.fair Device);
-  ties = by_role _ here there;
-}
-sound_with Device first w b k here there s = record {
-  matches = by_role _ (s.matches Driver) k.matches;
-  fair = by_role _ (s.fair Driver) k.fair;
-  ties = by_role _ there here;
-}
+sound_with role first w b k here there s = grind (arith, common_steps)
 
 -- A step that puts a packet.
 put_keeps : (role : Role) (first : ℕ) (p : Packet) (part : Ends) (b : Both)
@@ -234,11 +221,7 @@ run_keeps first [] b s may = s
 run_keeps first (x ∷ xs) b s may = run_keeps first xs (happens x.role x.step b) (step_keeps x.role first x.step b s may.0) may.1
 
 pub start_sound : (first guest_port host_port : ℕ) → IsSound first (start first guest_port host_port)
-start_sound first guest_port host_port = record {
-  matches = by_role _ (start_matches Driver first guest_port) (start_matches Device first host_port);
-  fair = by_role _ (λ f. tt) (λ f. tt);
-  ties = by_role _ (record { packets = ([], refl); events = ([], refl) }) (record { packets = ([], refl); events = ([], refl) });
-}
+start_sound first guest_port host_port = grind (arith, common_steps)
 
 -- What a sound pair says of the next packet.
 pub driver_accepts : (first : ℕ) (p : Packet) (e : ConnectionEnd) (b : Both) → IsSound first b → IsNextPacket b.driver.log b.device.log p

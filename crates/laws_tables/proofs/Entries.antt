@@ -76,8 +76,7 @@ among_flows f (x ∷ xs) none = let rest = among_flows f xs in grind (arith, com
 
 -- The flows of replies.
 pub replied_append : (rs more : List Reply) → replied (rs ++ more) ≡ replied rs ++ replied more
-replied_append [] more = refl
-replied_append (r ∷ rs) more = ap (λ (fs : List Flow). r.flow ∷ fs) (replied_append rs more)
+replied_append rs more = grind (arith, common_steps)
 
 pub replied_of : (xs : List FlowEnd) → replied (replies_of xs) ≡ flows_of xs
 replied_of [] = refl
@@ -104,8 +103,7 @@ without_own f (g ∷ fs) = let rest = without_own f fs in grind (arith, common_s
 
 -- Flows that are distinct stay so.
 not_then : (now was : Bool) → (now ≡ true → was ≡ true) → was ≡ false → now ≡ false
-not_then true was keeps none = let both : false ≡ true = sym none ∙ keeps refl in absurd cc
-not_then false was keeps none = refl
+not_then now was keeps none = grind (arith, common_steps)
 
 pub without_none : (f : Flow) (fs : List Flow) → is_among f fs ≡ false → without f fs ≡ fs
 without_none f [] none = refl

@@ -1,38 +1,27 @@
 -- What is put keeps a log fair, and what a fair log says of the packets that are got.
 use Rattle.std.proofs.{lemmas.Grind.common_steps, Common.{rules, ◌≡◌, ◌≢◌, ℕ, ◌+◌, ◌≤◌, Bool, true, false, ◌||◌, if◌then◌else◌, is_some, ◌⊎◌, inl, inr, List, [], ◌∷◌, length}}
 use Rattle.std.proofs.Common.{Some, refl, sym, ap, ◌∙◌, subst, arith}
-use Rattle.vs_wrap.specs.Wrap.{unwrap32}
 use Rattle.vs_conn.specs.{End.{CanSend, ConnectionEnd, is_refused, owes_of, verdict_of}, Follows.{FitsMessage, Follows, IsTaken}, declared.end.{Owed.Owed, State.TheVariants.Ended}}
-use Rattle.vs_conn.proofs.{Getting.get_taken, Steps.{opening_may, pay_may, room_plain, send_may, taken_of}}
+use Rattle.vs_conn.proofs.{Getting.get_taken, Steps.{pay_may, room_plain, send_may, taken_of}}
 use Rattle.vs_credit.specs.Credit.{room_of}
 use Rattle.vs_flow.specs.{Flow.same_flow, declared.flow.Flow.Flow}
-use Rattle.vs_header.specs.{Kind.{kind_named, kind_number}, declared.{Header.Header, Kind.{Kind, TheVariants.{Stream, Seqpacket}}}}
+use Rattle.vs_header.specs.{Kind.{kind_named, kind_number}, declared.{Header.Header, Kind.Kind}}
 use Rattle.laws_history.specs.{Again.{AllowsNow, IsClean, IsFairAll, present}, declared.packet.Packet.Packet, History.{Allows, Answerer, Asker, Entry, Got, History, IsFair}}
 use Rattle.laws_history.specs.{History.{MayPut, Put, Side, gots, is_begun, peer, puts}, Packets.{IsFormed, allowance, bytes, has, is_clean_rst, is_request, is_rst, size}}
 use Rattle.laws_history.{specs.Packets.{told_alloc, told_forwarded}, proofs.{Present.fair_once, Now.now, Quiet.marked_both, Fair.{BothSound, sound}, Ties.{Later, may_put_later}}}
-use Rattle.vs_limits.specs.declared.TheConstants.{BUF_ALLOC, HOST_CID}
+use Rattle.vs_limits.specs.declared.TheConstants.{HOST_CID}
 use Rattle.vs_page.specs.{Fair.{IsFairLog, IsFairOn}, Open.{cid_of, is_dropped, left_kind}, declared.log.LogEntry.{LogEntry, TheVariants.{PutPacket, GotPacket}}, Log.{Log, Role}}
 use Rattle.vs_page.{specs.Log.{Driver, and_then, flow_put, flow_got, history_of, side_of, whole_of}, proofs.Entries.{fair_got_on, fair_put_on, one_put, present_is}}
-use Rattle.vs_page.proofs.{Flows.{same_is, same_self}, Phases.kind_stays}
+use Rattle.vs_page.proofs.{Flows.same_self, Phases.kind_stays}
 use Rattle.vs_replies.specs.declared.Reply.{Reply}
 use Rattle.laws_tables.specs.{Ends.{Ends, is_among, is_new, replied}, Matches.{IsOwed, IsReady, MatchesFlows}, Heard.{IsAllHeard, IsInOrder, IsOrdered, IsOrderedLog, IsWithin}}
 use Rattle.laws_tables.specs.{Heard.{IsWithinCredit, heard_of, hears, is_awaiting, is_empty, is_fresh, is_over, route_of}, Steps.{HasEnd, is_overrun, owed_on, payload_on}}
-use Rattle.laws_tables.{specs.Steps.{reply_on, request_on}, proofs.{Frame.heard_put, OnFlow.{IsOne, end_follows}, Steps.{can_old, known_goes_on, order_one, reply_flow}}}
-use Rattle.laws_tables.proofs.Steps.{request_flow, then_put}
+use Rattle.laws_tables.{specs.Steps.{reply_on, request_on}, proofs.{OnFlow.{IsOne, end_follows}, Steps.{can_old, known_goes_on, order_one}}}
 
 -- A fair history of one connection that has begun has the REQUEST.
-begun_by : (side : Side) (put got : List Packet) (p : Packet) (b : Bool) → is_request p ≡ b → MayPut side put got p
-    → is_begun side (p ∷ put) got ≡ true
-begun_by = grind (arith, common_steps)
-
-other_begun : (side : Side) (put got : List Packet) → is_begun (peer side) put got ≡ is_begun side got put
-other_begun = grind (arith, common_steps)
-
 pub fair_begun : (side : Side) (h : History) (entry : Entry) → IsFair side (entry ∷ h)
     → is_begun side (puts (entry ∷ h)) (gots (entry ∷ h)) ≡ true
-fair_begun side h (Put p) fair = begun_by side (puts h) (gots h) p (is_request p) refl fair.0
-fair_begun side h (Got p) fair =
-    sym (other_begun side (p ∷ gots h) (puts h)) ∙ begun_by (peer side) (gots h) (puts h) p (is_request p) refl fair.0
+fair_begun side h entry fair = grind (arith, common_steps)
 
 -- What was heard, and what passed: all that the end put, and some of what it got.
 record IsHeardOf (k h : History) : Type 0 where
@@ -61,24 +50,13 @@ heard_of_passed role first f (GotPacket p ∷ log) =
     (heard_of_passed role first f log)
 heard_of_passed role first f (_ ∷ log) = heard_of_passed role first f log
 
-pub heard_none : (role : Role) (first : ℕ) (f : Flow) (log : Log) → history_of role f log ≡ [] → heard_of role first f log ≡ []
-heard_none role first f log = (heard_of_passed role first f log).none
-
 pub heard_puts : (role : Role) (first : ℕ) (f : Flow) (log : Log) → puts (heard_of role first f log) ≡ puts (history_of role f log)
 heard_puts role first f log = (heard_of_passed role first f log).puts_are
-
-from_host : (f : Flow) (p : Packet) (cid : ℕ) → f.peer ≡ HOST_CID → same_flow f (flow_got Driver p) ≡ true
-    → is_dropped Driver cid p.header ≡ false
-from_host f p cid host same =
-    let e = same_is f (flow_got Driver p) same in
-    let src : p.header.src_cid ≡ HOST_CID = sym (ap (λ (g : Flow). g.peer) e) ∙ host in
-    rw src refl
 
 all_heard_got : (f : Flow) (p : Packet) (cid : ℕ) (h k : History) (b : Bool) → same_flow f (flow_got Driver p) ≡ b → f.peer ≡ HOST_CID
     → k ≡ h
     → (if b then hears (is_dropped Driver cid p.header) p k else k) ≡ (if b then and_then (Got p) h else h)
-all_heard_got f p cid h k true same host is = rw (from_host f p cid host same) (ap (λ (x : History). and_then (Got p) x) is)
-all_heard_got f p cid h k false same host is = is
+all_heard_got f p cid h k b same host is = grind (arith, common_steps)
 
 pub heard_all : (first : ℕ) (f : Flow) (log : Log) → f.peer ≡ HOST_CID → heard_of Driver first f log ≡ history_of Driver f log
 heard_all first f [] host = refl
@@ -96,13 +74,9 @@ less_none = grind (arith, common_steps)
 less_same : (all : List Packet) → Later all all
 less_same = grind (arith, common_steps)
 
-unwrap_rises : (a b word : ℕ) → a ≤ b → unwrap32 a word ≤ unwrap32 b word
-unwrap_rises a b word less = grind arith
-
 forwarded_both : (some all : List Packet) (p : Packet) → told_forwarded some ≤ told_forwarded all
     → told_forwarded (p ∷ some) ≤ told_forwarded (p ∷ all)
-forwarded_both some all p less =
-    let u = unwrap_rises (told_forwarded some) (told_forwarded all) p.header.fwd_cnt less in grind (arith, common_steps)
+forwarded_both some all p less = grind (arith, common_steps)
 
 alloc_both : (some all : List Packet) (p : Packet) → told_alloc some ≤ told_alloc all → told_alloc (p ∷ some) ≤ told_alloc (p ∷ all)
 alloc_both = grind (arith, common_steps)
@@ -160,16 +134,10 @@ put_fair role f p log is fair may =
     (one_put role log p).1 (fair, subst (λ x. AllowsNow (side_of role x) (history_of role x log) (Put p)) (sym is) may)
 
 -- A REQUEST of an end that may ask.
-open_allowed : (side : Side) (h : History) (p : Packet) → is_request p ≡ true → side ≡ Asker → MayPut Asker [] [] p → IsReady h
-    → AllowsNow side h (Put p)
-open_allowed = grind (arith, common_steps)
-
 pub request_allowed : (role : Role) (cid : ℕ) (f : Flow) (kind : Kind) (log : Log) → side_of role f ≡ Asker
     → IsReady (history_of role f log)
     → AllowsNow (side_of role f) (history_of role f log) (Put (request_on role cid f kind))
-request_allowed role cid f kind log asker ready =
-    open_allowed (side_of role f) (history_of role f log) (request_on role cid f kind) refl asker
-    (opening_may kind BUF_ALLOC (route_of role cid f) refl) ready
+request_allowed role cid f kind log asker ready = grind (arith, common_steps)
 
 -- Where the log is fair and what an end put is within the credit that it heard, its credit is sound.
 both_sound : (side : Side) (h heard : History) → IsFair side h → puts heard ≡ puts h → Later (gots heard) (gots h) → IsWithin heard
@@ -195,11 +163,6 @@ sound_heard role first f log fair within =
     both_sound (side_of role f) (history_of role f log) (heard_of role first f log) (fair_now role f log fair) (heard_puts role first f log)
     (heard_less role first f log fair) within
 
-put_within : (side : Side) (put got : List Packet) (p : Packet) → MayPut side put got p → bytes put ≤ allowance got
-    → told_forwarded put ≤ bytes got
-    → (bytes (p ∷ put) ≤ allowance got) × (told_forwarded (p ∷ put) ≤ bytes got)
-put_within = grind (arith, common_steps)
-
 -- The packets that may be put, by what was heard.
 pub send_may_on : (role : Role) (first cid : ℕ) (f : Flow) (e : ConnectionEnd) (payload : List ℕ) (part : Ends) (log : Log)
     → MatchesFlows role first part log
@@ -223,8 +186,7 @@ pay_may_on role first cid f e what part log m has old owes fair within =
     pay_may (side_of role f) (puts h) (gots h) e (route_of role cid f) what (sound_heard role first f log fair within) o.follows owes
 
 known_kind : (k : Kind) → is_some (kind_named (kind_number k)) ≡ true
-known_kind Stream = refl
-known_kind Seqpacket = refl
+known_kind k = grind (arith, common_steps)
 
 pub reply_may : (role : Role) (cid : ℕ) (r : Reply) (log : Log) → IsOwed role log r
     → AllowsNow (side_of role r.flow) (history_of role r.flow log) (Put (reply_on role cid r))
@@ -234,27 +196,15 @@ reply_may = grind (arith, known_kind, common_steps)
 pub put_keeps_within : (role : Role) (first : ℕ) (f : Flow) (p : Packet) (log : Log) → flow_put role p ≡ f → is_request p ≡ false
     → (let h = heard_of role first f log in MayPut (side_of role f) (puts h) (gots h) p) → IsWithinCredit role first f log
     → IsWithinCredit role first f (PutPacket p ∷ log)
-put_keeps_within role first f p log is other may within =
-    let h = heard_of role first f log in
-    let two = put_within (side_of role f) (puts h) (gots h) p may within.fits within.forwarded in
-    subst IsWithin (sym (heard_put role first f p log is ∙ then_put p h other)) (record { fits = two.0; forwarded = two.1 })
+put_keeps_within role first f p log is other may within = grind (arith, common_steps)
 
 pub open_within : (role : Role) (first cid : ℕ) (f : Flow) (kind : Kind) (log : Log)
     → IsWithinCredit role first f (PutPacket (request_on role cid f kind) ∷ log)
-open_within role first cid f kind log =
-    let p = request_on role cid f kind in
-    let two = put_within Asker [] [] p (opening_may kind BUF_ALLOC (route_of role cid f) refl) (omega arith) (omega arith) in
-    subst IsWithin (sym (heard_put role first f p log (request_flow role cid f kind)))
-    (record { fits = two.0; forwarded = two.1 })
-
-reply_is_small : (role : Role) (cid : ℕ) (r : Reply) (h : History) → IsWithin h → IsWithin (Put (reply_on role cid r) ∷ h)
-reply_is_small role cid r h within = grind (arith, common_steps)
+open_within role first cid f kind log = grind (arith, common_steps)
 
 pub reply_within : (role : Role) (first cid : ℕ) (r : Reply) (log : Log) → IsWithinCredit role first r.flow log
     → IsWithinCredit role first r.flow (PutPacket (reply_on role cid r) ∷ log)
-reply_within role first cid r log within =
-    subst IsWithin (sym (heard_put role first r.flow (reply_on role cid r) log (reply_flow role cid r)))
-    (reply_is_small role cid r (heard_of role first r.flow log) within)
+reply_within role first cid r log within = grind (arith, common_steps)
 
 got_within_by : (side : Side) (h heard : History) (p : Packet) (same dropped asks : Bool) → is_request p ≡ asks
     → (same ≡ true → AllowsNow side h (Got p))
@@ -356,13 +306,8 @@ got_in_order role first p log fair =
     heard_order role first f p log (fair_order (side_of role f) (history_of role f log) p (fair_now role f log two.0) two.1)
     (asked_first (side_of role f) (history_of role f log) p two.1)
 
-formed_by : (side : Side) (h : History) (p : Packet) (b : Bool) → is_request p ≡ b → AllowsNow side h (Got p) → IsFormed p
-formed_by = grind (arith, common_steps)
-
 pub got_formed : (role : Role) (p : Packet) (log : Log) → let f = flow_got role p in IsFairOn role f (GotPacket p ∷ log) → IsFormed p
-got_formed role p log fair =
-    formed_by (side_of role (flow_got role p)) (history_of role (flow_got role p) log) p (is_request p) refl
-    (own_got_fair role p log fair).1
+got_formed role p log fair = grind (arith, common_steps)
 
 pub got_is_taken : (role : Role) (p : Packet) (log : Log) → let f = flow_got role p in IsFairOn role f (GotPacket p ∷ log) → IsTaken p
 got_is_taken role p log fair = taken_of p (got_formed role p log fair)
@@ -471,16 +416,8 @@ ordered_in_order role first p log ordered =
     (λ asker. subst (λ h. has is_request (puts h) ≡ true) here
     (ordered_asked w (subst (λ s. IsOrdered s w) asker o.1) (awaiting_any (present w) (o.0.asked asker))))
 
-older_by : (side : Side) (w v : History) (b : Bool) → (IsOrdered side v → IsOrdered side w) → IsOrdered side (if b then v else w)
-    → IsOrdered side w
-older_by = grind (arith, common_steps)
-
 pub older_ordered : (role : Role) (entry : LogEntry) (log : Log) → IsOrderedLog role (entry ∷ log) → IsOrderedLog role log
-older_ordered role (PutPacket p) log o = λ f. older_by (side_of role f) (whole_of role f log) _ (same_flow f (flow_put role p)) (λ x. x.1)
-    (o f)
-older_ordered role (GotPacket p) log o = λ f. older_by (side_of role f) (whole_of role f log) _ (same_flow f (flow_got role p)) (λ x. x.1)
-    (o f)
-older_ordered role _ log o = o
+older_ordered role entry log o = grind (arith, common_steps)
 
 begun_peer : (side : Side) (h : History) → is_begun (peer side) (gots h) (puts h) ≡ true → is_empty h ≡ false
 begun_peer = grind (arith, common_steps)

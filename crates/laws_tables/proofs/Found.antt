@@ -1,13 +1,11 @@
 -- A flow that is found among those that are kept, and what is left of them without one.
-use Rattle.std.proofs.Common.{◌≡◌, ◌||◌, Bool, true, false, cond, List, [], ◌∷◌, Some, refl, sym, ap, subst}
-use Rattle.std.specs.List.{find}
+use Rattle.std.{proofs.{Common.{◌≡◌, ◌||◌, Bool, true, false, cond, List, [], ◌∷◌, Some, refl, sym, ap, subst, arith}, lemmas.Grind.common_steps}, specs.List.find}
 use Rattle.vs_flow.specs.{CleanPairs.without_oldest, Flow.same_flow, declared.flow.Flow.Flow}
 use Rattle.vs_page.proofs.Flows.{same_is, same_self}
 use Rattle.laws_tables.{specs.Ends.{AreDistinct, is_among, without}, proofs.Entries.without_none}
 
 pub either_true : (a b : Bool) → b ≡ true → (a || b) ≡ true
-either_true true b is = refl
-either_true false b is = is
+either_true a b is = grind (arith, common_steps)
 
 pub found_among : (test : Flow → Bool) (f : Flow) (fs : List Flow) → find test fs ≡ Some f → is_among f fs ≡ true
 found_among test f [] is = absurd cc

@@ -1,12 +1,11 @@
 -- What an entry does to its own flow, and to others; and what a step has to show.
-use Rattle.std.proofs.{Common.{◌≡◌, ℕ, ◌≤◌, Bool, true, false, if◌then◌else◌, Option, List, [], ◌∷◌, refl, sym, ap, ◌∙◌, subst, arith}, lemmas.Grind.common_steps}
+use Rattle.std.proofs.{Common.{◌≡◌, ℕ, ◌≤◌, Bool, true, false, Option, List, [], ◌∷◌, refl, sym, ap, ◌∙◌, arith}, lemmas.Grind.common_steps}
 use Rattle.vs_conn.specs.End.{ConnectionEnd}
 use Rattle.vs_flow.specs.{declared.flow.Flow.Flow, Flow.same_flow}
-use Rattle.laws_history.specs.{History.{History, Put, Got, Side, Asker, puts}, Packets.is_request, declared.packet.Packet.Packet}
-use Rattle.vs_page.specs.{Log.{Log, Role, and_then, flow_put, flow_got, history_of, side_of}, Open.{Phase, cid_of, is_clean_end, is_dropped, kind_got, kind_put, left_kind}}
-use Rattle.vs_page.{specs.{Open.{open_kind, phase_heard, phase_of}, declared.log.LogEntry.{TheVariants.{PutPacket, GotPacket}, LogEntry}, Frame.is_about}, proofs.Flows.same_self}
-use Rattle.vs_page.proofs.Flows.{same_is}
-use Rattle.laws_tables.specs.{Ends.{Ends, FlowEnd, ends_of, is_among, replied}, Heard.{heard_of, hears, is_awaiting, own_port}, Matches.{IsKept, IsLeftOn, IsUnused, MatchesFlows}}
+use Rattle.laws_history.specs.{History.{History, Put, Got, Side, Asker}, Packets.is_request, declared.packet.Packet.Packet}
+use Rattle.vs_page.specs.{Log.{Log, Role, and_then, flow_put, flow_got, history_of, side_of}, Open.{Phase, cid_of, is_dropped, kind_got, left_kind}}
+use Rattle.vs_page.{specs.{Open.{open_kind, phase_of}, declared.log.LogEntry.{TheVariants.{PutPacket, GotPacket}, LogEntry}, Frame.is_about}, proofs.Flows.same_self}
+use Rattle.laws_tables.specs.{Ends.{Ends, FlowEnd, ends_of, is_among, replied}, Heard.{heard_of, is_awaiting, own_port}, Matches.{IsKept, IsLeftOn, IsUnused, MatchesFlows}}
 use Rattle.laws_tables.specs.Matches.{MatchesOn}
 use Rattle.vs_replies.specs.declared.Reply.{Reply}
 
@@ -24,40 +23,19 @@ pub heard_got : (role : Role) (first : ℕ) (f : Flow) (p : Packet) (log : Log) 
 heard_got role first f p log is heard = rw (same_of f (flow_got role p) is) (rw heard refl)
 
 -- The type of the open connection after a packet.
-heard_kind : (dropped clean : Bool) (p : Packet) (ph : Phase) → dropped ≡ false
-    → open_kind (phase_heard dropped clean p ph) ≡ kind_got p (open_kind ph)
-heard_kind = grind (arith, common_steps)
-
-pub open_put : (role : Role) (first : ℕ) (f : Flow) (p : Packet) (log : Log) → flow_put role p ≡ f
-    → left_kind role first f (PutPacket p ∷ log) ≡ kind_put p (left_kind role first f log)
-open_put = grind (arith, common_steps)
-
 pub open_got : (role : Role) (first : ℕ) (f : Flow) (p : Packet) (log : Log) → flow_got role p ≡ f
     → is_dropped role (cid_of first log) p.header ≡ false
     → left_kind role first f (GotPacket p ∷ log) ≡ kind_got p (left_kind role first f log)
-open_got role first f p log is kept =
-    rw (same_of f (flow_got role p) is)
-    (heard_kind (is_dropped role (cid_of first log) p.header) (is_clean_end (side_of role f) (puts (history_of role f log)) p) p
-    (phase_of role first f log) kept)
+open_got role first f p log is kept = grind (arith, common_steps)
 
 -- A packet that is dropped changes no phase. A REQUEST ends what was heard on its flow, any other changes nothing.
-phase_kept : (b dropped clean : Bool) (p : Packet) (ph : Phase) → dropped ≡ true → (if b then phase_heard dropped clean p ph else ph) ≡ ph
-phase_kept = grind (arith, common_steps)
-
 pub phase_dropped : (role : Role) (first : ℕ) (f : Flow) (p : Packet) (log : Log) → is_dropped role (cid_of first log) p.header ≡ true
     → phase_of role first f (GotPacket p ∷ log) ≡ phase_of role first f log
-phase_dropped role first f p log dropped =
-    phase_kept (same_flow f (flow_got role p)) (is_dropped role (cid_of first log) p.header)
-    (is_clean_end (side_of role f) (puts (history_of role f log)) p) p (phase_of role first f log) dropped
-
-heard_kept : (b dropped : Bool) (p : Packet) (h : History) → dropped ≡ true → is_request p ≡ false
-    → (if b then hears dropped p h else h) ≡ h
-heard_kept = grind (arith, common_steps)
+phase_dropped role first f p log dropped = grind (arith, common_steps)
 
 pub heard_dropped : (role : Role) (first : ℕ) (f : Flow) (p : Packet) (log : Log) → is_dropped role (cid_of first log) p.header ≡ true
     → is_request p ≡ false → heard_of role first f (GotPacket p ∷ log) ≡ heard_of role first f log
-heard_dropped role first f p log dropped other =
-    heard_kept (same_flow f (flow_got role p)) (is_dropped role (cid_of first log) p.header) p (heard_of role first f log) dropped other
+heard_dropped role first f p log dropped other = grind (arith, common_steps)
 
 pub heard_ended : (role : Role) (first : ℕ) (f : Flow) (p : Packet) (log : Log) → flow_got role p ≡ f
     → is_dropped role (cid_of first log) p.header ≡ true → is_request p ≡ true → heard_of role first f (GotPacket p ∷ log) ≡ []
@@ -65,11 +43,7 @@ heard_ended role first f p log is dropped asks = rw (same_of f (flow_got role p)
 
 -- A flow is the one that a step is about, or another.
 pub own_or_other : (P : Flow → Type 0) (f g : Flow) → P f → (same_flow g f ≡ false → P g) → P g
-own_or_other P f g own other = by (same_flow g f) refl
-  where
-    by : (b : Bool) → same_flow g f ≡ b → P g
-    by true is = subst P (sym (same_is g f is)) own
-    by false is = other is
+own_or_other P f g own other = grind (arith, common_steps)
 
 -- A flow is not kept to be used again, and its port is given, where this end asks for it.
 pub record IsUsed (role : Role) (f : Flow) (part : Ends) : Type 0 where
@@ -90,10 +64,7 @@ pub left_alone : (role : Role) (side : Side) (h older : History) (kind was : Opt
     (ends had : List ConnectionEnd)
     → IsLeftOn role side older was was_owed had → h ≡ older → kind ≡ was → owed ≡ was_owed → ends ≡ had
     → IsLeftOn role side h kind owed ends
-left_alone role side h older kind was owed was_owed ends had l a b c d =
-    subst (λ x. IsLeftOn role side x kind owed ends) (sym a)
-    (subst (λ x. IsLeftOn role side older x owed ends) (sym b)
-    (subst (λ x. IsLeftOn role side older was x ends) (sym c) (subst (λ x. IsLeftOn role side older was was_owed x) (sym d) l)))
+left_alone role side h older kind was owed was_owed ends had l a b c d = grind (arith, common_steps)
 
 -- A step about the flow f: f is as the longer log leaves it, other flows are left alone.
 pub flows_step : (role : Role) (first : ℕ) (f : Flow) (part : Ends) (older : Log) (xs : List FlowEnd) (rs : List Reply) (newer : Log)
@@ -129,18 +100,8 @@ pub still_flows : (role : Role) (first : ℕ) (part : Ends) (older newer : Log) 
     → ((f : Flow) → heard_of role first f newer ≡ heard_of role first f older)
     → ((f : Flow) → phase_of role first f newer ≡ phase_of role first f older) → MatchesFlows role first part older
     → MatchesFlows role first part newer
-still_flows role first part older newer cid heard phase m = record {
-  on = λ f. left_alone role (side_of role f) _ _ _ _ _ _ _ _ (m.on f) (heard f) (ap (λ (x : Phase). open_kind x) (phase f)) refl refl;
-  unused = λ f asker later. let u = m.unused f asker later in
-      record { silent = heard f ∙ u.silent; no_end = u.no_end; not_kept = u.not_kept };
-  kept = λ f among. let k = m.kept f among in
-      record { asker = k.asker; no_end = k.no_end; no_reply = k.no_reply; over = ap is_awaiting (heard f) ∙ k.over };
-  once = m.once;
-  cid = m.cid ∙ sym cid;
-}
+still_flows role first part older newer cid heard phase m = grind (arith, common_steps)
 
 pub heard_other : (role : Role) (first : ℕ) (f : Flow) (entry : LogEntry) (log : Log) → is_about role f entry ≡ false
     → heard_of role first f (entry ∷ log) ≡ heard_of role first f log
-heard_other role first f (PutPacket p) log other = rw other refl
-heard_other role first f (GotPacket p) log other = rw other refl
-heard_other role first f _ log other = refl
+heard_other role first f entry log other = grind (arith, common_steps)

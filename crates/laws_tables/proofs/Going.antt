@@ -1,8 +1,8 @@
 -- The steps of one seat, one after another. Which packets come is for the other end to say.
-use Rattle.std.proofs.Common.{◌≡◌, ℕ, List, [], ◌∷◌, ◌++◌, refl, sym, ap, subst, ◌∙◌}
+use Rattle.std.proofs.{Common.{◌≡◌, ℕ, List, [], ◌∷◌, ◌++◌, refl, sym, ap, subst, ◌∙◌, arith}, lemmas.Grind.common_steps}
 use Rattle.vs_page.specs.{Fair.IsFairLog, Log.{Device, Driver, Log, Role, flow_got, side_of, whole_of}}
-use Rattle.vs_page.{specs.declared.log.LogEntry.{LogEntry, TheVariants.{GotPacket, PutPacket}}, proofs.Entries.{one_got, one_put}}
-use Rattle.laws_tables.specs.{Matches.Matches, Both.{Both, Happening, MayHappen, MayRun, MayStep, Seat, Step, Takes, TakesEvent, after, at, happens, log_after, run}}
+use Rattle.vs_page.specs.declared.log.LogEntry.{LogEntry, TheVariants.GotPacket}
+use Rattle.laws_tables.specs.{Matches.Matches, Both.{Both, Happening, MayHappen, MayRun, MayStep, Seat, Step, Takes, after, at, happens, log_after, run}}
 use Rattle.laws_tables.proofs.{Both.seat_keeps, Fair.{fair_ordered, got_formed, got_is_taken}, Later.step_adds}
 
 -- A step that may be made there, whatever the other end did.
@@ -11,19 +11,14 @@ MayDo role (Takes p answer) w = Unit {0}
 MayDo role step w = MayStep role step w
 
 pub may_do : (role : Role) (step : Step) (w : Seat) → MayStep role step w → MayDo role step w
-may_do role (Takes p answer) w may = tt
-may_do role step w may = may
+may_do role step w may = grind (arith, common_steps)
 
 may_here : (role : Role) (step : Step) (b : Both) → MayHappen role step b → MayDo role step (at role b)
-may_here role (Takes p answer) b may = tt
-may_here role (TakesEvent id) b may = may.0
-may_here role step b may = may
+may_here role step b may = grind (arith, common_steps)
 
 -- A fair log was fair before, and a step that keeps it so keeps its seat matching it.
 older_fair : (role : Role) (entry : LogEntry) (log : Log) → IsFairLog role (entry ∷ log) → IsFairLog role log
-older_fair role (PutPacket p) log fair = ((one_put role log p).0 fair).0
-older_fair role (GotPacket p) log fair = ((one_got role log p).0 fair).0
-older_fair role _ log fair = fair
+older_fair role entry log fair = grind (arith, common_steps)
 
 all_fair : (role : Role) (newer log : Log) → IsFairLog role (newer ++ log) → IsFairLog role log
 all_fair role [] log fair = fair

@@ -1,5 +1,5 @@
 -- Each small step keeps an end of many connections matching its log, with what a fair log gives besides.
-use Rattle.std.proofs.Common.{◌≡◌, ◌≢◌, ◌≤◌, ℕ, Bool, true, false, ◌&&◌, if◌then◌else◌, is_some, ◌⊎◌, inl, inr, List, [], ◌∷◌, length, Some, refl, sym, ap, ◌∙◌, subst, arith, None}
+use Rattle.std.proofs.Common.{◌≡◌, ◌≢◌, ◌≤◌, ℕ, Bool, true, false, ◌&&◌, if◌then◌else◌, is_some, ◌⊎◌, inl, inr, List, [], ◌∷◌, length, Some, refl, sym, ap, ◌∙◌, subst, arith}
 use Rattle.std.proofs.{Common.◌++◌, lemmas.Grind.common_steps}
 use Rattle.vs_conn.specs.{End.{CanSend, ConnectionEnd, answering, asked, end_after, is_of, owes_of, paid_of, verdict_of, with_payload_sent}, Follows.{Follows, IsTaken}}
 use Rattle.vs_conn.{specs.{Follows.FitsMessage, declared.end.Owed.Owed}, proofs.{Frames.got_kind, Getting.get_follows, Steps.{answer_follows, asked_follows, send_follows}}}
@@ -130,21 +130,7 @@ gets_on role first p xs rs part log kept used own others old gives m =
 
 pub start_matches : (role : Role) (first port : ℕ)
     → Matches role first (record { entries = []; replies = []; clean = []; next_port = port; cid = first }) []
-start_matches role first port = record {
-  flows = record {
-    on = λ f. empties_on role (side_of role f) [] None false [] refl refl (λ is. absurd cc);
-    unused = λ f asker later. record { silent = refl; no_end = refl; not_kept = refl };
-    kept = λ f among. absurd cc;
-    once = tt;
-    cid = refl;
-  };
-  fairly = λ fair. record {
-    within = λ f. record { fits = omega arith; forwarded = omega arith };
-    kept = λ f among. absurd cc;
-    ready = λ f e has new. absurd cc;
-    replies = tt;
-  };
-}
+start_matches role first port = grind (arith, common_steps)
 
 -- Fewer flows are kept, and more ports are given.
 not_then : (now was : Bool) → (now ≡ true → was ≡ true) → was ≡ false → now ≡ false
@@ -153,19 +139,7 @@ not_then = grind (arith, common_steps)
 fewer : (role : Role) (first port : ℕ) (clean : List Flow) (part : Ends) (log : Log) → part.next_port ≤ port
     → ((f : Flow) → is_among f clean ≡ true → is_among f part.clean ≡ true) → AreDistinct clean → Matches role first part log
     → Matches role first (record part { clean = clean; next_port = port }) log
-fewer role first port clean part log rises were once m = record {
-  flows = record {
-    on = m.flows.on;
-    unused = λ f asker later. let u = m.flows.unused f asker (omega (arith, later, rises)) in
-        record { silent = u.silent; no_end = u.no_end; not_kept = not_then _ _ (were f) u.not_kept };
-    kept = λ f among. let k = m.flows.kept f (were f among) in
-        record { asker = k.asker; no_end = k.no_end; no_reply = k.no_reply; over = k.over };
-    once = once;
-    cid = m.flows.cid;
-  };
-  fairly = λ fair. let l = m.fairly fair in
-      record { within = l.within; kept = λ f among. l.kept f (were f among); ready = l.ready; replies = l.replies };
-}
+fewer role first port clean part log rises were once m = grind (arith, common_steps)
 
 -- One that keeps another flow.
 keeps_flow : (role : Role) (first : ℕ) (f : Flow) (part : Ends) (log : Log) → IsUsed role f part → IsKept role first part log f
@@ -334,9 +308,6 @@ sends role first cid f e payload part log m has can fits =
     (send_may_on role first cid f e payload part log m.flows has can fits (fair f) (left.within f)) (left.within f)) m
 
 -- What an end owes: a new one its REQUEST.
-pub paid_old : (e : ConnectionEnd) (what : Owed) → is_new e ≡ false → is_new (paid_of e what) ≡ false
-paid_old = grind (arith, common_steps)
-
 not_request : (e : ConnectionEnd) (what : Owed) → is_new e ≡ false → owes_of e ≡ Some what → what ≢ owed.Request
 not_request e what old owes is = steps.old_request e old (subst (λ x. owes_of e ≡ Some x) is owes)
 

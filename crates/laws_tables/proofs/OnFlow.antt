@@ -26,8 +26,7 @@ pub record IsFirst (side : Side) (h : History) (kind : Option ℕ) (reply_owed :
 -- Where a reply is owed no REQUEST may come.
 pub owed_stale : (role : Role) (side : Side) (h : History) (kind : Option ℕ) (ends : List ConnectionEnd)
     → IsLeftOn role side h kind true ends → (ends ≡ []) × (is_fresh h ≡ false)
-owed_stale role side h (Some kind) ends left = left
-owed_stale role side h None ends left = left
+owed_stale role side h kind ends left = grind (arith, common_steps)
 
 pub end_follows : (role : Role) (side : Side) (h : History) (kind : Option ℕ) (reply_owed : Bool) (ends : List ConnectionEnd)
     (e : ConnectionEnd)
@@ -39,22 +38,10 @@ pub end_asks : (role : Role) (side : Side) (h : History) (kind : Option ℕ) (re
     → IsLeftOn role side h kind reply_owed ends → ends ≡ e ∷ [] → is_new e ≡ true → IsFirst side h kind reply_owed e
 end_asks = grind (arith, common_steps)
 
-pub at_most_one : (role : Role) (side : Side) (h : History) (kind : Option ℕ) (reply_owed : Bool) (e : ConnectionEnd)
-    (more : List ConnectionEnd)
-    → IsLeftOn role side h kind reply_owed (e ∷ more) → more ≡ []
-at_most_one = grind (arith, common_steps)
-
 -- Where a REQUEST may come, the flow isn't open and nothing is owed.
 pub fresh_closed : (role : Role) (side : Side) (h : History) (kind : Option ℕ) (reply_owed : Bool) (ends : List ConnectionEnd)
     → IsLeftOn role side h kind reply_owed ends → is_fresh h ≡ true → (kind ≡ None) × (reply_owed ≡ false)
 fresh_closed = grind (arith, common_steps)
-
--- The end of a flow, which has begun.
-pub held_on : (role : Role) (side : Side) (h : History) (kind : Option ℕ) (reply_owed : Bool) (ends : List ConnectionEnd)
-    (e : ConnectionEnd)
-    → ends ≡ e ∷ [] → kind ≡ Some (kind_number e.kind) → reply_owed ≡ false → Follows side (puts h) (gots h) e
-    → IsLeftOn role side h kind reply_owed ends
-held_on = grind (arith, common_steps)
 
 -- The end of a flow changed, and nothing passed.
 pub changes_on : (role : Role) (side : Side) (h : History) (kind : Option ℕ) (reply_owed : Bool) (ends now : List ConnectionEnd)
@@ -76,8 +63,7 @@ passes_on = grind (arith, common_steps)
 pub begins_on : (role : Role) (side : Side) (entry : Entry) (now_kind : Option ℕ) (reply_owed : Bool) (now : List ConnectionEnd)
     (after : ConnectionEnd) → reply_owed ≡ false → now ≡ after ∷ [] → now_kind ≡ Some (kind_number after.kind)
     → Follows side (puts (entry ∷ [])) (gots (entry ∷ [])) after → IsLeftOn role side (entry ∷ []) now_kind reply_owed now
-begins_on role side entry now_kind reply_owed now after none now_is kind_is follows =
-    held_on role side (entry ∷ []) now_kind reply_owed now after now_is kind_is none follows
+begins_on role side entry now_kind reply_owed now after none now_is kind_is follows = grind (arith, common_steps)
 
 -- A flow that has no end, isn't open, and is owed nothing.
 pub closed_on : (role : Role) (side : Side) (h : History) (kind : Option ℕ) (reply_owed : Bool) (now : List ConnectionEnd)

@@ -5,48 +5,37 @@ use Rattle.vs_conn.specs.{End.{CanSend, ConnectionEnd, answering, asked, end_aft
 use Rattle.vs_conn.proofs.Frames.{got_own, paid_own}
 use Rattle.vs_flow.specs.{Connection.Connection, Flow.same_flow, declared.flow.Flow.Flow}
 use Rattle.vs_limits.specs.declared.TheConstants.{BUF_ALLOC}
-use Rattle.laws_history.specs.{Again.count, History.{Answerer, Asker, Got, History, Put, Side, gots, puts}, Packets.{is_request, is_rst}, declared.packet.Packet.Packet}
-use Rattle.vs_page.specs.{Fair.{IsFairLog, asked_by, current, number_of, payload_of, payload_put}, Log.{Log, Role, flow_got, flow_put, side_of, whole_of}, Open.is_dropped}
-use Rattle.vs_page.{specs.declared.log.LogEntry.{LogEntry, TheVariants.{GotPacket, PutPacket}}, proofs.Flows.same_is}
-use Rattle.laws_tables.specs.Both.{Asks, Both, Decides, Decision, Happening, IsSound, MakesReset, MayRun, Opens, Pays, Replies, Seat, Sends, Shuts, Step, Takes}
-use Rattle.laws_tables.specs.Both.{TakesReset, after, after_packet, answered, at, decided, log_after, part_after, run}
+use Rattle.laws_history.specs.{History.{Asker, History, Put, puts}, Packets.{is_request, is_rst}, declared.packet.Packet.Packet}
+use Rattle.vs_page.specs.{Fair.{IsFairLog, current, number_of, payload_of, payload_put}, Log.{Log, Role, flow_got, flow_put, side_of, whole_of}, Open.is_dropped}
+use Rattle.vs_page.{specs.declared.log.LogEntry.{TheVariants.{GotPacket, PutPacket}}, proofs.Flows.same_is}
+use Rattle.laws_tables.specs.Both.{Asks, Both, Decides, Decision, Happening, IsSound, MakesReset, MayRun, Opens, Pays, Replies, Seat, Sends, Step, Takes}
+use Rattle.laws_tables.specs.Both.{TakesReset, after, after_packet, answered, at, decided, part_after, run}
 use Rattle.laws_tables.specs.{Drains.{is_same, only_on, put_on}, Ends.{answer_kind, ends_of, is_new, replaced}, Later.{AsksOther, IsPast, IsShut, StillPast, StillShut, may_put, may_send_more}}
 use Rattle.laws_tables.specs.{Matches.{Matches, MatchesFlows}, Steps.{HasEnd, is_kept, left, owed_on, payload_on, reply_on, request_on, with_clean, with_end}}
 use Rattle.laws_tables.proofs.{Adding.{put_adds, put_nothing, put_over_got}, Both.run_keeps, Entries.replaced_other, Fair.got_in_order, Going.{Goes, MayDo, MayDoAll, done, fair_keeps, run_goes, step_fair}}
-use Rattle.laws_tables.proofs.{Later.step_adds, News.{MakesNone, MakesOther, Stays, changes, comes, leaves, step_makes}, Steps.{can_old, order_old, owed_flow, payload_flow, pays_new, request_flow}}
+use Rattle.laws_tables.proofs.{News.{MakesNone, MakesOther, Stays, changes, comes, leaves, step_makes}, Steps.{can_old, order_old, owed_flow, payload_flow, pays_new, request_flow}}
 use Rattle.laws_tables.proofs.Tables.{end_new, only_end}
 use Rattle.vs_conn.specs.declared.end.Owed.TheVariants as owed
 
 -- What an end decided it keeps, and it may send nothing.
 decided_shut : (e : ConnectionEnd) (what : Decision) → may_send_more e ≡ false → may_send_more (decided e what) ≡ false
-decided_shut e (Shuts bits) shut = grind (arith, common_steps, shut)
-decided_shut e y shut = shut
+decided_shut e what shut = grind (arith, common_steps)
 
 shut_stays : Stays may_send_more
-shut_stays = record {
-  heard = λ e h shut. ap (λ o. not o.send) (got_own e h) ∙ shut;
-  sent = λ e n shut. shut;
-  paid = λ e what shut. ap (λ o. not o.send) (paid_own e what) ∙ shut;
-  decided = decided_shut;
-}
+shut_stays = grind (arith, common_steps)
 
 cannot : (e : ConnectionEnd) (n : ℕ) → list_any may_put (e ∷ []) ≡ false → CanSend e n → ⊥
 cannot = grind (arith, common_steps)
 
-first_none : (a b : Bool) → a ≡ false → (a && b) ≡ false
-first_none a b none = ap (λ (c : Bool). c && b) none
-
 second_none : (a b : Bool) → b ≡ false → (a && b) ≡ false
-second_none true b none = none
-second_none false b none = refl
+second_none a b none = grind (arith, common_steps)
 
 -- A flow, until it is asked for again.
 pub is_shut : (f : Flow) (w : Seat) (e : ConnectionEnd) → HasEnd f e w.part → e.own.send ≡ true → IsShut f w
 is_shut f w e has shut = ap (list_any may_send_more) has ∙ ap (λ (b : Bool). not b || false) shut
 
 put_by : (b : Bool) (p : Packet) (h : History) → p.payload ≡ [] → payload_of (puts (cond b (Put p ∷ h) h)) ≡ payload_of (puts h)
-put_by true p h none = ap (λ (bytes : List ℕ). payload_of (puts h) ++ bytes) none ∙ append-nil (payload_of (puts h))
-put_by false p h none = refl
+put_by b p h none = grind (arith, common_steps)
 
 put_none : (role : Role) (f : Flow) (p : Packet) (log : Log) → p.payload ≡ [] → put_on role f (PutPacket p ∷ log) ≡ put_on role f log
 put_none role f p log none = put_by (same_flow f (flow_put role p)) p (whole_of role f log) none
@@ -56,13 +45,7 @@ put_got = grind (arith, common_steps)
 
 module _ (role : Role) (f : Flow) (w : Seat) (shut : IsShut f w) where
   makes : (step : Step) → AsksOther role f step w → MakesOther may_send_more f step role w.part
-  makes (Opens g kind) other = first_none (same_flow f g) _ other
-  makes (Asks g kind) other = first_none (same_flow f g) _ other
-  makes (Sends g e payload) named = named.0
-  makes (Pays g e what) named = named
-  makes (Decides g e what) named = named
-  makes (Takes p answer) other = λ asks. first_none (same_flow f (flow_got role p)) _ (other asks)
-  makes step other = tt
+  makes step other = grind (arith, common_steps)
 
   sends_other : (g : Flow) (e : ConnectionEnd) (payload : List ℕ) → HasEnd g e w.part → CanSend e (length payload) → (b : Bool) → same_flow f g ≡ b
       → b ≡ false
@@ -94,62 +77,25 @@ module _ (role : Role) (f : Flow) (w : Seat) (shut : IsShut f w) where
 -- A connection, also where its flow is used again.
 pub is_past : (role : Role) (c : Connection) (w : Seat) (e : ConnectionEnd) → HasEnd c.flow e w.part → e.own.send ≡ true
     → c.number ≤ number_of role c.flow w.log → IsPast role c w
-is_past role c w e has shut past = record {
-  past = past;
-  shut = λ same. ap (list_any may_put) has ∙ ap (λ (b : Bool). b || false) (second_none (not (is_new e)) (may_send_more e) (ap not shut));
-}
+is_past role c w e has shut past = grind (arith, common_steps)
 
 -- An end that began keeps what it decided.
 keeps : (e now : ConnectionEnd) → is_new e ≡ false → (may_send_more e ≡ false → may_send_more now ≡ false) → may_put e ≡ false → may_put now ≡ false
-keeps e now old stays none =
-    second_none (not (is_new now)) (may_send_more now) (stays (sym (ap (λ (b : Bool). not b && may_send_more e) old) ∙ none))
+keeps e now old stays none = grind (arith, common_steps)
 
 -- How many connections of a flow began: no fewer by an entry more, and one more by a REQUEST.
-more_by : (role : Role) (f : Flow) (entry : LogEntry) (log : Log) → number_of role f log ≤ number_of role f (entry ∷ log)
-more_by = grind (arith, common_steps)
-
-more_all : (role : Role) (f : Flow) (newer log : Log) → number_of role f log ≤ number_of role f (newer ++ log)
-more_all role f [] log = omega arith
-more_all role f (entry ∷ newer) log =
-    let one = more_by role f entry (newer ++ log) in let rest = more_all role f newer log in omega (arith, one, rest)
-
 step_more : (role : Role) (f : Flow) (step : Step) (w : Seat) → number_of role f w.log ≤ number_of role f (after role step w).log
-step_more role f step w =
-    subst (λ (log : Log). number_of role f w.log ≤ number_of role f log) (sym (step_adds role w.part.cid step w.log))
-    (more_all role f (log_after role w.part.cid step []) w.log)
-
-asks_by : (side : Side) (p : Packet) (w : History) (b : Bool) → b ≡ true → side ≡ Asker → is_request p ≡ true
-    → let v : History = cond b (Put p ∷ w) w in asked_by side (puts v) (gots v) ≡ asked_by side (puts w) (gots w) + 1
-asks_by Asker p w true is own asks = ap (λ (b : Bool). cond b (count is_request (puts w) + 1) (count is_request (puts w))) asks
-asks_by Answerer p w b is own asks = absurd cc
-asks_by side p w false is own asks = absurd cc
-
-got_by : (side : Side) (p : Packet) (w : History) (b : Bool) → b ≡ true → side ≡ Answerer → is_request p ≡ true
-    → let v : History = cond b (Got p ∷ w) w in asked_by side (puts v) (gots v) ≡ asked_by side (puts w) (gots w) + 1
-got_by Answerer p w true is own asks = ap (λ (b : Bool). cond b (count is_request (gots w) + 1) (count is_request (gots w))) asks
-got_by Asker p w b is own asks = absurd cc
-got_by side p w false is own asks = absurd cc
+step_more role f step w = grind (arith, common_steps)
 
 put_asks : (role : Role) (f g : Flow) (p : Packet) (log : Log) → flow_put role p ≡ g → same_flow f g ≡ true → side_of role g ≡ Asker → is_request p ≡ true
     → number_of role f (PutPacket p ∷ log) ≡ number_of role f log + 1
-put_asks role f g p log flow same own asks =
-    asks_by (side_of role f) p (whole_of role f log) (same_flow f (flow_put role p)) (ap (same_flow f) flow ∙ same)
-    (ap (side_of role) (same_is f g same) ∙ own) asks
-
-got_asks : (role : Role) (f : Flow) (p : Packet) (log : Log) → same_flow f (flow_got role p) ≡ true → side_of role (flow_got role p) ≡ Answerer
-    → is_request p ≡ true → number_of role f (GotPacket p ∷ log) ≡ number_of role f log + 1
-got_asks role f p log same own asks =
-    got_by (side_of role f) p (whole_of role f log) (same_flow f (flow_got role p)) same (ap (side_of role) (same_is f (flow_got role p) same) ∙ own) asks
+put_asks role f g p log flow same own asks = grind (arith, common_steps)
 
 module _ (role : Role) (first : ℕ) (w : Seat) (m : MatchesFlows role first w.part w.log) where
   module _ (f : Flow) where
     -- An end that comes, where no connection of the flow began.
     elsewhere : (g : Flow) (b : Bool) → (same_flow f g ≡ true → ⊥) → (same_flow f g && b) ≡ false
-    elsewhere g b never = by (same_flow f g) refl
-      where
-        by : (a : Bool) → same_flow f g ≡ a → (a && b) ≡ false
-        by true is = absurd (never is)
-        by false is = refl
+    elsewhere g b never = grind (arith, common_steps)
 
     -- What is owed is put.
     module _ (g : Flow) (e : ConnectionEnd) (what : Owed) (has : HasEnd g e w.part) (owes : owes_of e ≡ Some what)
@@ -175,8 +121,7 @@ module _ (role : Role) (first : ℕ) (w : Seat) (m : MatchesFlows role first w.p
       g = flow_got role p
 
       asked_here : is_request p ≡ true → same_flow f g ≡ true → ⊥
-      asked_here asks is =
-          let more = got_asks role f p w.log is ((got_in_order role first p w.log (fair g)).request asks).0 asks in omega (arith, more, same)
+      asked_here asks is = grind (arith, common_steps)
 
       unknown : (rst asks a : Bool) → is_request p ≡ asks → MakesNone may_put f w.part.entries (cond rst w.part (answered asks a p g w.part)).entries
       unknown true asks a is = λ one. one

@@ -140,8 +140,7 @@ module _ {T : Type 0} where
 
   map_append : (end_of : T → ConnectionEnd) (xs ys : List (Entry T))
       → map (out end_of) (xs ++ ys) ≡ map (out end_of) xs ++ map (out end_of) ys
-  map_append end_of [] ys = refl
-  map_append end_of (x ∷ xs) ys = ap (λ zs. out end_of x ∷ zs) (map_append end_of xs ys)
+  map_append end_of xs ys = grind (arith, common_steps)
 
   pub added_slot : (end_of : T → ConnectionEnd) (t : Table T) (f : Flow) (v : T)
       → entries_of end_of (with_entry t f v) ≡ entries_of end_of t ++ record { flow = f; end = end_of v } ∷ []

@@ -1,37 +1,33 @@
 -- Each small step keeps an end of many connections matching its log.
-use Rattle.std.proofs.Common.{◌+◌, rules, ◌≡◌, ◌≢◌, ℕ, ◌≤◌, Bool, true, false, ◌||◌, ◌⊎◌, inl, inr, Option, Some, List, [], ◌∷◌, ◌++◌, refl, sym, ap, ◌∙◌, subst, arith}
+use Rattle.std.proofs.Common.{rules, ◌≡◌, ◌≢◌, ℕ, ◌≤◌, Bool, true, false, ◌||◌, Option, Some, List, [], ◌∷◌, ◌++◌, refl, sym, ap, ◌∙◌, subst, arith}
 use Rattle.std.proofs.lemmas.{Grind.common_steps, Bool.Decides.nat_tests}
 use Rattle.vs_conn.{specs.{End.{CanSend, ConnectionEnd, owes_of, paid_of}, Follows.{Follows, owed_packet}, declared.{end.Owed.Owed, route.Route.Route}}, proofs.Frames.paid_kind}
 use Rattle.vs_conn.proofs.Steps.{pay_follows}
 use Rattle.vs_flow.specs.{Flow.same_flow, declared.flow.Flow.Flow}
 use Rattle.vs_header.specs.{Kind.kind_number, declared.Kind.Kind}
 use Rattle.laws_history.specs.{History.{History, Put, Got, Side, Asker, puts, gots}, Packets.{has, is_clean_rst, is_request, is_rst}, declared.packet.Packet.Packet}
-use Rattle.vs_page.specs.{Open.{cid_of, is_dropped, kind_got, kind_put, left_kind}, declared.log.LogEntry.TheVariants.{PutPacket, GotPacket}, Log.{Log, Role, Driver, Device}}
+use Rattle.vs_page.specs.{Open.{cid_of, is_dropped, kind_got, kind_put, left_kind}, declared.log.LogEntry.TheVariants.{PutPacket, GotPacket}, Log.{Log, Role, Driver}}
 use Rattle.vs_page.{specs.Log.{and_then, flow_put, flow_got, side_of}, proofs.Flows.same_self}
 use Rattle.vs_replies.specs.declared.Reply.{Reply}
-use Rattle.laws_tables.specs.{Ends.{Ends, ends_of, flows_of, is_among, is_new, replied, replies_of}, Heard.{IsInOrder, heard_of, is_awaiting, is_fresh, own_port}, Steps.HasEnd}
+use Rattle.laws_tables.specs.{Ends.{Ends, ends_of, flows_of, is_among, is_new, replied, replies_of}, Heard.{IsInOrder, heard_of, is_awaiting, is_fresh}, Steps.HasEnd}
 use Rattle.laws_tables.specs.{Steps.{IsNextFlow, is_kept, owed_on, payload_on, port_after, reply_on, request_on}, Matches.{IsAsking, IsLeftOn, MatchesFlows, MatchesOn}}
-use Rattle.laws_tables.proofs.{Entries.{among_append, among_last, among_other, replied_append, replied_of}, Frame.{IsUsed, heard_got, heard_put, left_alone, open_got, open_put}}
-use Rattle.laws_tables.proofs.{OnFlow.{IsOne, begins_on, end_asks, end_follows, fresh_closed, owed_stale, passes_on}, Opening.kind_stays}
+use Rattle.laws_tables.proofs.{Entries.{among_append, among_last, among_other, replied_append, replied_of}, Frame.IsUsed}
+use Rattle.laws_tables.proofs.{OnFlow.{IsOne, begins_on, end_asks, end_follows, passes_on}, Opening.kind_stays}
 use Rattle.vs_conn.specs.declared.end.Owed.TheVariants as owed
 
 -- The flows of the packets that an end puts.
 pub request_flow : (role : Role) (cid : ℕ) (f : Flow) (kind : Kind) → flow_put role (request_on role cid f kind) ≡ f
-request_flow Driver cid f kind = refl
-request_flow Device cid f kind = refl
+request_flow role cid f kind = grind (arith, common_steps)
 
 pub owed_flow : (role : Role) (cid : ℕ) (f : Flow) (e : ConnectionEnd) (what : Owed) → flow_put role (owed_on role cid f e what) ≡ f
-owed_flow Driver cid f e what = refl
-owed_flow Device cid f e what = refl
+owed_flow role cid f e what = grind (arith, common_steps)
 
 pub payload_flow : (role : Role) (cid : ℕ) (f : Flow) (e : ConnectionEnd) (payload : List ℕ)
     → flow_put role (payload_on role cid f e payload) ≡ f
-payload_flow Driver cid f e payload = refl
-payload_flow Device cid f e payload = refl
+payload_flow role cid f e payload = grind (arith, common_steps)
 
 pub reply_flow : (role : Role) (cid : ℕ) (r : Reply) → flow_put role (reply_on role cid r) ≡ r.flow
-reply_flow Driver cid r = refl
-reply_flow Device cid r = refl
+reply_flow role cid r = grind (arith, common_steps)
 
 -- The history with a packet more.
 pub then_put : (p : Packet) (h : History) → is_request p ≡ false → and_then (Put p) h ≡ Put p ∷ h
@@ -52,40 +48,28 @@ pub own_put : (role : Role) (first : ℕ) (f : Flow) (p : Packet) (part : Ends) 
     (is_among f (replied part.replies))
     (ends_of f part.entries)
     → MatchesOn role first part (PutPacket p ∷ log) f
-own_put role first f p part log is own =
-    left_alone role (side_of role f) _ _ _ _ _ _ _ _ own (heard_put role first f p log is) (open_put role first f p log is) refl refl
+own_put role first f p part log is own = grind (arith, common_steps)
 
 pub own_got : (role : Role) (first : ℕ) (f : Flow) (p : Packet) (part : Ends) (log : Log) → flow_got role p ≡ f
     → is_dropped role (cid_of first log) p.header ≡ false
     → IsLeftOn role (side_of role f) (and_then (Got p) (heard_of role first f log)) (kind_got p (left_kind role first f log))
     (is_among f (replied part.replies)) (ends_of f part.entries)
     → MatchesOn role first part (GotPacket p ∷ log) f
-own_got role first f p part log is heard own =
-    left_alone role (side_of role f) _ _ _ _ _ _ _ _ own (heard_got role first f p log is heard) (open_got role first f p log is heard) refl
-    refl
+own_got role first f p part log is heard own = grind (arith, common_steps)
 
 pub reply_stale : (role : Role) (first : ℕ) (f : Flow) (part : Ends) (log : Log) → MatchesFlows role first part log
     → is_among f (replied part.replies) ≡ true
     → (ends_of f part.entries ≡ []) × (is_fresh (heard_of role first f log) ≡ false)
-reply_stale role first f part log m owed_is =
-    owed_stale role (side_of role f) (heard_of role first f log) (left_kind role first f log) (ends_of f part.entries)
-    (subst (λ x. IsLeftOn role (side_of role f) (heard_of role first f log) (left_kind role first f log) x
-    (ends_of f part.entries)) owed_is (m.on f))
+reply_stale role first f part log m owed_is = grind (arith, common_steps)
 
 -- A flow that has an end, on which a packet comes in order, or to which a reply is owed, is not kept, and its port is given.
-unkept_by : (b : Bool) → (b ≡ true → ⊥) → b ≡ false
-unkept_by = grind (arith, common_steps)
-
 pub used_by_end : (role : Role) (first : ℕ) (part : Ends) (log : Log) (f : Flow) (e : ConnectionEnd) → MatchesFlows role first part log
     → HasEnd f e part → IsUsed role f part
 used_by_end = grind (arith, common_steps)
 
 pub used_by_order : (role : Role) (first : ℕ) (part : Ends) (log : Log) (f : Flow) (p : Packet) → MatchesFlows role first part log
     → IsInOrder (side_of role f) (heard_of role first f log) p → IsUsed role f part
-used_by_order role first part log f p m order = record {
-  given = λ asker later. let both : false ≡ true = sym (ap is_awaiting (m.unused f asker later).silent) ∙ order.asked asker in absurd cc;
-  unkept = unkept_by _ (λ among. let k = m.kept f among in let both : true ≡ false = sym (order.asked k.asker) ∙ k.over in absurd cc);
-}
+used_by_order role first part log f p m order = grind (arith, common_steps)
 
 pub used_by_reply : (role : Role) (first : ℕ) (part : Ends) (log : Log) (f : Flow) → MatchesFlows role first part log
     → is_among f (replied part.replies) ≡ true → IsUsed role f part
@@ -101,36 +85,15 @@ pub record IsFree (role : Role) (first : ℕ) (part : Ends) (log : Log) (f : Flo
   pub no_reply : is_among f (replied part.replies) ≡ false
   pub over : is_awaiting (heard_of role first f log) ≡ false
 
-silent_fresh : (h : History) → h ≡ [] → (is_fresh h ≡ true) × (is_awaiting h ≡ false)
-silent_fresh = grind (arith, common_steps)
-
 pub next_free : (role : Role) (first : ℕ) (f : Flow) (part : Ends) (log : Log) → MatchesFlows role first part log → IsNextFlow role f part
     → IsFree role first part log f
-next_free role first f part log m next = by next.port
-  where
-    by : (part.next_port ≤ own_port role f) ⊎ (is_among f part.clean ≡ true) → IsFree role first part log f
-    by (inl later) =
-        let u = m.unused f next.asker later in
-        let two = silent_fresh (heard_of role first f log) u.silent in
-        record {
-          no_end = u.no_end;
-          no_reply =
-              (fresh_closed role (side_of role f) (heard_of role first f log) (left_kind role first f log)
-              (is_among f (replied part.replies))
-              (ends_of f part.entries) (m.on f) two.0).1;
-          over = two.1;
-        }
-    by (inr among) = let k = m.kept f among in record { no_end = k.no_end; no_reply = k.no_reply; over = k.over }
+next_free role first f part log m next = grind (arith, common_steps)
 
 pub port_rises : (next port : ℕ) → next ≤ port_after next port
 port_rises = grind (arith, nat_tests, common_steps)
 
 pub port_given : (next port : ℕ) → port_after next port ≤ port → ⊥
 port_given next port later = grind (arith, nat_tests, common_steps, later)
-
--- The port that was to be given next is given.
-pub port_next : (n : ℕ) → port_after n n ≡ n + 1
-port_next n = grind (arith, nat_tests, common_steps)
 
 -- Connections put.
 pub can_old : (e : ConnectionEnd) (n : ℕ) → CanSend e n → is_new e ≡ false

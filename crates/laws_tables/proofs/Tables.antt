@@ -1,5 +1,5 @@
 -- The table of an end that matches its log.
-use Rattle.std.proofs.Common.{◌≡◌, ◌≢◌, ℕ, zero, suc, ◌<◌, length, slice_index_or, is_some, Option, Some, None, Bool, true, false, ◌&&◌, ◌||◌, not, List, [], ◌∷◌, refl, sym, ap}
+use Rattle.std.proofs.Common.{◌≡◌, ◌≢◌, ℕ, zero, suc, ◌<◌, length, slice_index_or, is_some, Option, None, Bool, true, false, ◌&&◌, ◌||◌, not, List, [], ◌∷◌, refl, sym, ap}
 use Rattle.std.{proofs.{Common.{◌∙◌, subst, arith}, lemmas.{Grind.common_steps, List.Kept.AllPairs-cons}}, specs.List.AllPairs}
 use Rattle.vs_conn.specs.{End.ConnectionEnd, Follows.Follows}
 use Rattle.vs_flow.specs.{Flow.same_flow, declared.flow.Flow.Flow}
@@ -7,7 +7,7 @@ use Rattle.laws_history.specs.History.{History, Side, puts, gots}
 use Rattle.vs_page.specs.{Log.{Log, Role, Driver, side_of}, Open.{Phase, is_open, left_kind, open_kind, phase_of, phase_reset}, declared.log.LogEntry.TheVariants.Mark}
 use Rattle.vs_page.proofs.Flows.{same_self}
 use Rattle.laws_tables.specs.{Ends.{Ends, FlowEnd, begun_flows, ends_of, flows_of, is_among, is_new, new_flows, replied}, Heard.heard_of, Matches.{IsLeftOn, MatchesFlows}}
-use Rattle.laws_tables.{specs.Steps.{HasEnd, HasNone}, proofs.OnFlow.{IsFirst, at_most_one, owed_stale, end_asks, end_follows}}
+use Rattle.laws_tables.{specs.Steps.{HasEnd, HasNone}, proofs.OnFlow.{IsFirst, end_asks, end_follows}}
 
 abbrev any_begun : List ConnectionEnd → Bool
 any_begun [] = false
@@ -34,17 +34,7 @@ table_open role first part log f m =
 pub driver_begun : (first : ℕ) (part : Ends) (log : Log) (f : Flow) (e : ConnectionEnd) → MatchesFlows Driver first part log
     → HasEnd f e part
     → is_new e ≡ false
-driver_begun first part log f e m has =
-    driver_begun_on (side_of Driver f) (heard_of Driver first f log) (left_kind Driver first f log) (is_among f (replied part.replies))
-    (ends_of f part.entries) (m.on f) has (is_new e) refl where
-      driver_begun_on : (side : Side) (h : History) (kind : Option ℕ) (reply_owed : Bool) (ends : List ConnectionEnd)
-          → IsLeftOn Driver side h kind reply_owed ends → ends ≡ e ∷ [] → (b : Bool) → is_new e ≡ b → is_new e ≡ false
-      driver_begun_on side h kind reply_owed ends left one false old = old
-      driver_begun_on side h (Some k) false ends left one true new =
-          let a = end_asks Driver side h (Some k) false ends e left one new in let bad = a.kind_is in absurd cc
-      driver_begun_on side h None false ends left one true new = let both : [] ≡ e ∷ [] = sym left ∙ one in absurd cc
-      driver_begun_on side h kind true ends left one true new =
-          let both : [] ≡ e ∷ [] = sym (owed_stale Driver side h kind ends left).0 ∙ one in absurd cc
+driver_begun first part log f e m has = grind (arith, common_steps)
 
 pub end_begun : (role : Role) (first : ℕ) (part : Ends) (log : Log) (f : Flow) (e : ConnectionEnd) → MatchesFlows role first part log
     → HasEnd f e part
@@ -74,19 +64,10 @@ all_begun xs old one f = by_ends (ends_of f xs) refl where
       let b = begun_among f xs ∙ ap any_begun is in
       some_flow f e more xs is ∙ sym (b ∙ (grind (arith, common_steps)))
 
-one_at_most : (role : Role) (side : Side) (h : History) (kind : Option ℕ) (reply_owed : Bool) (ends : List ConnectionEnd)
-    (e : ConnectionEnd)
-    (more : List ConnectionEnd)
-    → IsLeftOn role side h kind reply_owed ends → ends ≡ e ∷ more → more ≡ []
-one_at_most role side h kind reply_owed ends e more left is =
-    at_most_one role side h kind reply_owed e more (subst (IsLeftOn role side h kind reply_owed) is left)
-
 pub only_end : (role : Role) (first : ℕ) (part : Ends) (log : Log) (f : Flow) (e : ConnectionEnd) (more : List ConnectionEnd)
     → MatchesFlows role first part log
     → ends_of f part.entries ≡ e ∷ more → more ≡ []
-only_end role first part log f e more m is =
-    one_at_most role (side_of role f) (heard_of role first f log) (left_kind role first f log) (is_among f (replied part.replies))
-    (ends_of f part.entries) e more (m.on f) is
+only_end role first part log f e more m is = grind (arith, common_steps)
 
 pub driver_open : (first : ℕ) (part : Ends) (log : Log) (f : Flow) → MatchesFlows Driver first part log
     → is_among f (flows_of part.entries) ≡ is_open Driver first f log (is_among f (replied part.replies))

@@ -1,14 +1,13 @@
 -- What an end counts as unread, whatever it does.
-use Rattle.std.proofs.Common.{◌≡◌, ℕ, ◌+◌, ◌-◌, ◌%◌, ◌^◌, ◌<◌, ◌≤◌, Bool, true, false, cond, Option, Some, refl, sym, subst, arith}
+use Rattle.std.proofs.Common.{◌≡◌, ℕ, ◌+◌, ◌-◌, ◌%◌, ◌^◌, ◌<◌, ◌≤◌, cond, Option, refl, sym, subst, arith}
 use Rattle.std.proofs.lemmas.{Bool.Decides.nat_tests, Grind.common_steps}
-use Rattle.vs_conn.specs.End.{ConnectionEnd, all_forwarded, after_message, after_op, end_after, paid_of, verdict_of, with_shut}
+use Rattle.vs_conn.specs.End.{ConnectionEnd, after_message, after_op, end_after, paid_of, verdict_of, with_shut}
 use Rattle.vs_conn.{specs.declared.end.{Owed.Owed, Verdict.Verdict}, proofs.Frames.paid_credit}
 use Rattle.vs_credit.specs.{Credit.{room_of, unread_of, with_forwarded, with_taken}, declared.Credit.Credit}
 use Rattle.vs_header.specs.{Op.op_named, declared.{Header.Header, Op.Op}}
 use Rattle.vs_limits.specs.declared.TheConstants.{BUF_ALLOC_MAX}
 use Rattle.laws_tables.specs.Drains.{delivered}
 use Rattle.vs_conn.specs.declared.end.Verdict.TheVariants as verdict
-use Rattle.vs_header.specs.declared.Op.TheVariants as op
 
 -- No more is unread than there is buffer space, which is at most the largest one.
 pub record Counts (c : Credit) : Type 0 where
@@ -23,37 +22,14 @@ pub record Moves (more less : ℕ) (c d : Credit) : Type 0 where
   pub unread : unread_of d + less ≡ unread_of c + more
 
 pub still : (c d : Credit) → Counts c → d.alloc ≡ c.alloc → d.rx_cnt ≡ c.rx_cnt → d.fwd_cnt ≡ c.fwd_cnt → Moves 0 0 c d
-still c d k alloc rx fwd =
-    let same : unread_of d ≡ unread_of c = cc in
-    record {
-      counts = record { within = omega (arith, k.within, same, alloc); alloc = omega (arith, k.alloc, alloc); rx = omega (arith, k.rx, rx); fwd = omega (arith, k.fwd, fwd) };
-      unread = omega (arith, same);
-    }
-
-fewer : (rx fwd n : ℕ) → rx < 2 ^ 32 → fwd < 2 ^ 32 → n ≤ (rx + 2 ^ 32 - fwd) % 2 ^ 32
-    → (rx + 2 ^ 32 - (fwd + n) % 2 ^ 32) % 2 ^ 32 + n ≡ (rx + 2 ^ 32 - fwd) % 2 ^ 32
-fewer rx fwd n r f le = omega (arith, r, f, le)
+still c d k alloc rx fwd = grind (arith, common_steps)
 
 more : (rx fwd n alloc : ℕ) → rx < 2 ^ 32 → fwd < 2 ^ 32 → alloc ≤ BUF_ALLOC_MAX → n ≤ alloc - (rx + 2 ^ 32 - fwd) % 2 ^ 32
     → (rx + 2 ^ 32 - fwd) % 2 ^ 32 ≤ alloc → ((rx + n) % 2 ^ 32 + 2 ^ 32 - fwd) % 2 ^ 32 ≡ (rx + 2 ^ 32 - fwd) % 2 ^ 32 + n
 more rx fwd n alloc r f a le within = omega (arith, r, f, a, le, within)
 
-as_many : (rx fwd n : ℕ) → rx < 2 ^ 32 → fwd < 2 ^ 32
-    → ((rx + n) % 2 ^ 32 + 2 ^ 32 - (fwd + n) % 2 ^ 32) % 2 ^ 32 ≡ (rx + 2 ^ 32 - fwd) % 2 ^ 32
-as_many rx fwd n r f = omega (arith, r, f)
-
-none_left : (rx : ℕ) → rx < 2 ^ 32 → (rx + 2 ^ 32 - rx) % 2 ^ 32 ≡ 0
-none_left rx r = omega (arith, r)
-
 pub forwards : (c : Credit) (n : ℕ) → Counts c → n ≤ unread_of c → Moves 0 n c (with_forwarded c n)
-forwards c n k le =
-    let less = fewer c.rx_cnt c.fwd_cnt n k.rx k.fwd le in
-    record { counts = record { within = omega (arith, k.within, less); alloc = k.alloc; rx = k.rx; fwd = omega arith }; unread = omega (arith, less) }
-
-forwards_all : (c : Credit) → Counts c → Moves 0 (unread_of c) c (all_forwarded c)
-forwards_all c k =
-    let none = none_left c.rx_cnt k.rx in
-    record { counts = record { within = omega (arith, none); alloc = k.alloc; rx = k.rx; fwd = k.rx }; unread = omega (arith, none) }
+forwards c n k le = grind (arith, common_steps)
 
 takes : (c : Credit) (n : ℕ) → Counts c → n ≤ room_of c → Moves n 0 c (with_taken c n)
 takes c n k room =
@@ -61,17 +37,14 @@ takes c n k room =
     record { counts = record { within = omega (arith, all, room, k.within); alloc = k.alloc; rx = omega arith; fwd = k.fwd }; unread = omega (arith, all) }
 
 discards : (c : Credit) (n : ℕ) → Counts c → Moves 0 0 c (with_forwarded (with_taken c n) n)
-discards c n k =
-    let same = as_many c.rx_cnt c.fwd_cnt n k.rx k.fwd in
-    record { counts = record { within = omega (arith, k.within, same); alloc = k.alloc; rx = omega arith; fwd = omega arith }; unread = omega (arith, same) }
+discards c n k = grind (arith, common_steps)
 
 -- A packet that is got; payload that is delivered fits its room.
 delivers_room : (e : ConnectionEnd) (h : Header) → verdict_of e h ≡ verdict.Deliver → h.len ≤ room_of e.credit
 delivers_room e h is = grind (arith, nat_tests, common_steps, is)
 
 message : (o : Option Op) (e : ConnectionEnd) (h : Header) → Counts e.credit → Moves 0 0 e.credit (after_message o e h).credit
-message (Some op.Invalid) e h k = still e.credit _ k refl refl refl
-message _ e h k = still e.credit _ k refl refl refl
+message o e h k = grind (arith, common_steps)
 
 hears_by : (v : Verdict) (e : ConnectionEnd) (h : Header) → verdict_of e h ≡ v → Counts e.credit
     → Moves (delivered v h.len) 0 e.credit (after_op (op_named h.op) e h v).credit
@@ -93,8 +66,4 @@ pays e what k = subst (Moves 0 0 e.credit) (sym (paid_credit e what)) (still e.c
 
 pub shuts : (e : ConnectionEnd) (bits : ℕ) → Counts e.credit
     → Moves 0 (cond (with_shut e bits).own.receive (unread_of e.credit) 0) e.credit (with_shut e bits).credit
-shuts e bits k = by (with_shut e bits).own.receive
-  where
-    by : (b : Bool) → Moves 0 (cond b (unread_of e.credit) 0) e.credit (cond b (all_forwarded e.credit) e.credit)
-    by true = forwards_all e.credit k
-    by false = still e.credit e.credit k refl refl refl
+shuts e bits k = grind (arith, common_steps)

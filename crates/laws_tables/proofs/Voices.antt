@@ -2,7 +2,7 @@
 use Rattle.std.proofs.Common.{rules, ◌≡◌, ℕ, ◌==◌, Bool, true, false, ◌&&◌, not, if◌then◌else◌, is_some, List, [], ◌∷◌, ◌++◌, Option, Some, refl, sym, ap, ◌∙◌, subst, arith}
 use Rattle.std.proofs.lemmas.{Grind.common_steps, Bool.Decides.nat_tests}
 use Rattle.laws_tables.specs.Both.{Asks, Both, Decides, Happening, IsSound, MakesReset, MayHappen, MayRun, Opens, Pays, PutsEvent, Replies, Seat, Sends, Step, Takes, TakesEvent}
-use Rattle.laws_tables.specs.{Both.{TakesReset, after_packet, answered, decided, happens, run, start}, Heard.{IsInOrder, heard_of, hears, is_fresh}, Steps.HasEnd}
+use Rattle.laws_tables.specs.{Both.{TakesReset, after_packet, answered, decided, happens, run, start}, Heard.{IsInOrder, heard_of, is_fresh}, Steps.HasEnd}
 use Rattle.laws_tables.specs.{Steps.{is_kept, left, owed_on, paid, payload_on, reply_on, request_on, with_clean, with_end}, Ends.{Ends, ends_of}, Matches.MatchesFlows}
 use Rattle.laws_tables.proofs.{Entries.{added_other, replaced_other, without_other}, Both.{next_is_fair, run_keeps, start_sound, step_keeps}, Fair.{fair_now, fair_order, got_fair}}
 use Rattle.laws_tables.proofs.{Fair.{got_goes_on, got_one, heard_less, heard_puts, own_got_fair}, Frame.{own_or_other, same_of}, Keeps.{asker_peer, kind_by}, Steps.cid_heard}
@@ -13,8 +13,8 @@ use Rattle.vs_limits.specs.declared.TheConstants.{HOST_CID}
 use Rattle.vs_header.specs.{Kind.kind_number, declared.Header.Header}
 use Rattle.laws_history.specs.{Packets.{asked_kind, has, is_clean_rst, is_request, is_rst}, History.{Got, History, Put, gots, peer, puts}, Again.present}
 use Rattle.laws_history.specs.declared.packet.Packet.{Packet}
-use Rattle.vs_page.specs.Open.{Phase, cid_of, is_clean_end, is_dropped, is_left_open, left_kind, open_kind, phase_got, phase_heard, phase_of, phase_put, phase_reset}
-use Rattle.vs_page.specs.{declared.log.LogEntry.TheVariants.{GotPacket, PutPacket}, Log.{Driver, Device, IsNextPacket, Log, Role, and_then, flow_got, flow_put, history_of}}
+use Rattle.vs_page.specs.Open.{cid_of, is_dropped, is_left_open, left_kind}
+use Rattle.vs_page.specs.{declared.log.LogEntry.TheVariants.{GotPacket, PutPacket}, Log.{Driver, Device, IsNextPacket, Log, Role, flow_got, flow_put, history_of}}
 use Rattle.vs_page.{specs.{Log.{side_of, whole_of}, Fair.IsFairOn}, proofs.{Entries.{got_on, on_flow, present_is}, Flows.same_self}}
 use Rattle.vs_conn.specs.declared.end.Owed.TheVariants as owed
 
@@ -89,8 +89,7 @@ whole_put role f p log is = rw (same_of f (flow_put role p) is) refl
 
 whole_put_other : (role : Role) (f g : Flow) (p : Packet) (log : Log) → flow_put role p ≡ f → same_flow g f ≡ false
     → whole_of role g (PutPacket p ∷ log) ≡ whole_of role g log
-whole_put_other role f g p log is other =
-    let not_own : same_flow g (flow_put role p) ≡ false = subst (λ x. same_flow g x ≡ false) (sym is) other in rw not_own refl
+whole_put_other role f g p log is other = grind (arith, common_steps)
 
 puts_got : (role : Role) (g : Flow) (p : Packet) (log : Log) → puts (whole_of role g (GotPacket p ∷ log)) ≡ puts (whole_of role g log)
 puts_got = grind (arith, common_steps)
@@ -152,10 +151,6 @@ taken_other : (f g : Flow) (now : ConnectionEnd) (part : Ends) (keeps b : Bool) 
     → ends_of g (if b then with_clean keeps f (left f part) else with_end f now part).entries ≡ ends_of g part.entries
 taken_other = grind (arith, without_other, replaced_other, common_steps)
 
-taken_cid : (f : Flow) (now : ConnectionEnd) (part : Ends) (keeps b : Bool)
-    → (if b then with_clean keeps f (left f part) else with_end f now part).cid ≡ part.cid
-taken_cid = grind (arith, common_steps)
-
 answered_other : (f g : Flow) (p : Packet) (answer : Bool) (part : Ends) (asks : Bool) → same_flow g f ≡ false
     → ends_of g (answered asks answer p f part).entries ≡ ends_of g part.entries
 answered_other = grind (arith, added_other, common_steps)
@@ -169,10 +164,6 @@ packet_other : (ends : List ConnectionEnd) (f g : Flow) (p : Packet) (answer : B
 packet_other [] f g p answer part other = unknown_other f g p answer part (is_rst p) other
 packet_other (e ∷ more) f g p answer part other =
     taken_other f g _ part (is_kept Driver f e p) (is_rst p && is_of e.kind p.header) other
-
-answered_cid : (f : Flow) (p : Packet) (answer : Bool) (part : Ends) (rst asks : Bool)
-    → (if rst then part else answered asks answer p f part).cid ≡ part.cid
-answered_cid = grind (arith, common_steps)
 
 packet_cid : (ends : List ConnectionEnd) (f : Flow) (p : Packet) (answer : Bool) (part : Ends)
     → (after_packet Driver ends p f answer part).cid ≡ part.cid
@@ -204,38 +195,6 @@ KeepsOn first f log = gots (heard_of Device first f log) ≡ keep (cid_of first 
 
 abbrev pub IsKeeping : ℕ → Log → Type 0
 IsKeeping first log = (f : Flow) → is_left_open Device first f log ≡ true → KeepsOn first f log
-
--- A packet of the flow. After a REQUEST, also one that is dropped, it is so in any case.
-keep_put : (c : ℕ) (p : Packet) (h k : History) (ph : Phase) (same asks : Bool) → is_request p ≡ asks
-    → (is_some (open_kind ph) ≡ true → gots k ≡ keep c (gots h))
-    → is_some (open_kind (if same then phase_put p ph else ph)) ≡ true
-    → gots (if same then and_then (Put p) k else k) ≡ keep c (gots (if same then and_then (Put p) h else h))
-keep_put = grind (arith, common_steps)
-
-got_was : (clean : Bool) (p : Packet) (ph : Phase) → is_request p ≡ false → is_some (open_kind (phase_got clean p ph)) ≡ true
-    → is_some (open_kind ph) ≡ true
-got_was = grind (arith, common_steps)
-
-keep_got : (c : ℕ) (p : Packet) (h k : History) (ph : Phase) (clean same dropped asks : Bool) → is_dropped Device c p.header ≡ dropped
-    → is_request p ≡ asks
-    → (is_some (open_kind ph) ≡ true → gots k ≡ keep c (gots h))
-    → is_some (open_kind (if same then phase_heard dropped clean p ph else ph)) ≡ true
-    → gots (if same then hears dropped p k else k) ≡ keep c (gots (if same then and_then (Got p) h else h))
-keep_got = grind (arith, got_was, common_steps)
-
-keeps_put : (first : ℕ) (p : Packet) (log : Log) → IsKeeping first log → IsKeeping first (PutPacket p ∷ log)
-keeps_put first p log before g opens =
-    keep_put (cid_of first log) p (history_of Device g log) (heard_of Device first g log) (phase_of Device first g log)
-    (same_flow g (flow_put Device p)) (is_request p) refl (before g) opens
-
-keeps_got : (first : ℕ) (p : Packet) (log : Log) → IsKeeping first log → IsKeeping first (GotPacket p ∷ log)
-keeps_got first p log before g opens =
-    keep_got (cid_of first log) p (history_of Device g log) (heard_of Device first g log) (phase_of Device first g log)
-    (is_clean_end (side_of Device g) (puts (history_of Device g log)) p) (same_flow g (flow_got Device p))
-    (is_dropped Device (cid_of first log) p.header) (is_request p) refl refl (before g) opens
-
-reset_none : (ph : Phase) → is_some (open_kind (phase_reset ph)) ≡ true → ⊥
-reset_none = grind (arith, common_steps)
 
 -- Both.
 pub record AreVoiced (first : ℕ) (b : Both) : Type 0 where
@@ -298,14 +257,7 @@ driver_step first (TakesReset cid) b s may v = record { voices = v.voices; spoke
 
 device_step : (first : ℕ) (step : Step) (b : Both) → MayHappen Device step b → IsKeeping first b.device.log
     → IsKeeping first (happens Device step b).device.log
-device_step first (Opens f kind) b may k = keeps_put first (request_on Device b.device.part.cid f kind) b.device.log k
-device_step first (Sends f e payload) b may k = keeps_put first (payload_on Device b.device.part.cid f e payload) b.device.log k
-device_step first (Pays f e what) b may k = keeps_put first (owed_on Device b.device.part.cid f e what) b.device.log k
-device_step first (Replies r rest) b may k = keeps_put first (reply_on Device b.device.part.cid r) b.device.log k
-device_step first (Takes p answer) b may k = keeps_got first p b.device.log k
-device_step first (MakesReset cid) b may k = λ g opens. absurd (reset_none (phase_of Device first g b.device.log) opens)
-device_step first (TakesReset cid) b may k = λ g opens. absurd (reset_none (phase_of Device first g b.device.log) opens)
-device_step first _ b may k = k
+device_step first step b may k = grind (arith, common_steps)
 
 voices_step : (role : Role) (first : ℕ) (step : Step) (b : Both) → IsSound first b → MayHappen role step b → AreVoiced first b
     → AreVoiced first (happens role step b)

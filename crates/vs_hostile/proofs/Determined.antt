@@ -1,24 +1,23 @@
 -- Over rings in a guest's memory and a host in memory each conversation has one end, unless the host found no memory.
-use Rattle.std.proofs.Common.{◌≡◌, ℕ, Bool, true, false, cond, nat_le, List, length, Option, Some, None, Result, unwrap_or, refl, sym, ap, subst, ◌∙◌, arith}
+use Rattle.std.proofs.lemmas.Grind.{common_steps}
+use Rattle.std.proofs.Common.{◌≡◌, ℕ, Bool, true, false, cond, nat_le, List, length, Option, Some, Result, unwrap_or, refl, sym, ap, subst, ◌∙◌, arith}
 use Rattle.std.{proofs.lemmas.Bool.{false≢true, Decides.nat_tests}, specs.Prelude.{◌<◌, ◌≤◌}}
 use Rattle.vs_contents.specs.CallTree.{Done, Ask, played}
 use Rattle.vs_flow.specs.declared.flow.Flow.{Flow}
 use Rattle.vs_outside.specs.Host.{HostContents, IsDialed, IsWritten, after_accept, after_close, after_dial, after_failed, after_label, after_read, after_shut_write, after_write}
 use Rattle.vs_outside.specs.{Host.{called, dial_answer, fails_now, write_answer}, declared.host_net.{Accepted.Accepted, Dialed.Dialed, StreamRead.StreamRead}}
 use Rattle.vs_outside.specs.declared.host_net.StreamWrite.{StreamWrite}
-use Rattle.vs_ring_port.specs.{DeviceCalls.{DeviceAllows, DeviceMoves}, Contents.{RingContents, DeviceCall, DeviceAnswer, PlainState, Take, Read, Write, Return, Given, PublishCid}}
-use Rattle.vs_ring_port.specs.{EndLog.EndLog, Known.Known, Lists.Rings, declared.failure.Failure.Failure}
+use Rattle.vs_ring_port.specs.{DeviceCalls.{DeviceAllows, DeviceMoves}, Contents.{RingContents, DeviceCall, DeviceAnswer, Take, Read, Write, Return, Given, PublishCid}}
+use Rattle.vs_ring_port.specs.{EndLog.EndLog, Lists.Rings, declared.failure.Failure.Failure}
 use Rattle.vs_ring_plain.specs.Device.{DeviceState, answer_to}
 use Rattle.vs_device_parts.specs.Calls.{Call, Answer, DeviceTree, HostMoves, IsReadOf, Situation, Allows, Ring, Accept, Dial, Label, ReadStream, WriteStream, ShutWrite}
 use Rattle.vs_device_parts.specs.{Calls.CloseStream, Playing.{CanMake, MayRun, Runs, situation}}
 use Rattle.vs_proxy_parts.specs.{State.ProxyState, Turns.{proxy_reset_of, turn_of}, declared.answers.Turn.Turn}
 use Rattle.laws_proxy.specs.Order.{IsInOrder}
-use Rattle.vs_hostile.{specs.{Answers.{Around, answer_around, bytes_with, with_host}, Ready.IsServing, Whole.{is_made, whole_contents, whole_state}}, proofs.Seen.after_made}
+use Rattle.vs_hostile.{specs.{Answers.{Around, answer_around, with_host}, Ready.IsServing, Whole.{is_made, whole_contents}}}
 use Rattle.vs_hostile.proofs.Seen.{exposed}
 use Rattle.vs_outside.specs.declared.host_net.Accepted.TheVariants as accepted
 use Rattle.vs_outside.specs.declared.host_net.Dialed.TheVariants as dialed
-use Rattle.vs_outside.specs.declared.host_net.StreamRead.TheVariants as read
-use Rattle.vs_outside.specs.declared.host_net.StreamWrite.TheVariants as write
 
 -- What ring and host expose, with so many faults counted.
 abbrev pub seen : Around → ℕ → Situation
@@ -33,16 +32,6 @@ record IsStep (call : Call) (a : Answer call) (v : Around) (m : Situation) : Typ
   answer : after.host.starved ≡ false → answer_around call v ≡ (a, after)
 
 -- RINGS
-alone : (c : RingContents) (s : PlainState) → c.lists ≡ None → c.log ≡ None → c.other ≡ None → c.plain ≡ Some s → c.known ≡ None
-    → c.honest ≡ false → c ≡ record { lists = None; log = None; other = None; plain = Some s; known = None; honest = false }
-alone c s lists log other plain known honest =
-    ap (λ (x : Option Rings). record { lists = x; log = c.log; other = c.other; plain = c.plain; known = c.known; honest = c.honest }) lists
-    ∙ (ap (λ (x : Option EndLog). record { lists = None; log = x; other = c.other; plain = c.plain; known = c.known; honest = c.honest }) log
-    ∙ (ap (λ (x : Option EndLog). record { lists = None; log = None; other = x; plain = c.plain; known = c.known; honest = c.honest }) other
-    ∙ (ap (λ (x : Option PlainState). record { lists = None; log = None; other = None; plain = x; known = c.known; honest = c.honest }) plain
-    ∙ (ap (λ (x : Option Known). record { lists = None; log = None; other = None; plain = Some s; known = x; honest = c.honest }) known
-    ∙ ap (λ (x : Bool). record { lists = None; log = None; other = None; plain = Some s; known = None; honest = x }) honest))))
-
 -- What a ring and its call came to.
 record IsRingStep (call : DeviceCall) (a : DeviceAnswer call) (d : DeviceState) (c : RingContents) : Type 0 where
   is : c ≡ whole_contents (answer_to call d).1
@@ -50,12 +39,7 @@ record IsRingStep (call : DeviceCall) (a : DeviceAnswer call) (d : DeviceState) 
 
 moved : (call : DeviceCall) (a : DeviceAnswer call) (P : Rings → Type 0) (f : Rings → Rings) (Q : EndLog → Type 0) (g : EndLog → EndLog)
     (d : DeviceState) (c : RingContents) → is_made call ≡ true → DeviceMoves call a P f Q g (whole_contents d) c → IsRingStep call a d c
-moved call a P f Q g d c made h = record {
-  is =
-      alone c (whole_state (answer_to call d).1) h.lists h.log h.other
-      (h.plain.1 ∙ ap (λ (s : PlainState). Some s) (after_made call d made)) h.known h.honest;
-  answer = h.plain.0;
-}
+moved call a P f Q g d c made h = grind (arith, common_steps)
 
 within : (len room : ℕ) → (0 < len → len ≤ room) → nat_le len room ≡ true
 within len room h = grind (arith, nat_tests)
@@ -116,26 +100,15 @@ dial_starves flow dialed.Refused c was = was
 dial_starves flow dialed.Failed c was = failed_starves (fails_now c) c was
 
 read_starves : (stream : ℕ) (a : StreamRead) (c : HostContents) → c.starved ≡ true → (after_read stream a c).starved ≡ true
-read_starves stream (read.Got n) c was = was
-read_starves stream read.End c was = was
-read_starves stream read.Again c was = was
-read_starves stream read.Failed c was = was
+read_starves stream a c was = grind (arith, common_steps)
 
 write_starves : (stream : ℕ) (bytes : List ℕ) (a : StreamWrite) (c : HostContents) → c.starved ≡ true
     → (after_write stream bytes a c).starved ≡ true
-write_starves stream bytes (write.Took n) c was = was
-write_starves stream bytes write.Again c was = was
-write_starves stream bytes write.Closed c was = was
-write_starves stream bytes write.Failed c was = failed_starves (fails_now c) c was
+write_starves stream bytes a c was = grind (arith, common_steps)
 
 -- A call that failed, and not for want of memory, was to fail.
 was_to_fail : (c : HostContents) → (after_failed c).starved ≡ false → fails_now c ≡ true
-was_to_fail c fed = by (fails_now c) refl
-  where
-    by : (b : Bool) → fails_now c ≡ b → fails_now c ≡ true
-    by true is = is
-    by false is =
-        absurd (false≢true (sym fed ∙ ap (λ (b : Bool). (cond b (called c) (record (called c) { starved = true })).starved) is))
+was_to_fail c fed = grind (arith, common_steps)
 
 dial_again : (path : List ℕ) (flow : Flow) (a : Dialed) (c : HostContents) → IsDialed path a c → (after_dial flow a c).starved ≡ false
     → dial_answer path c ≡ a
@@ -145,23 +118,11 @@ dial_again path flow dialed.Failed c is fed = rw (was_to_fail c fed) refl
 
 write_again : (stream : ℕ) (bytes : List ℕ) (a : StreamWrite) (c : HostContents) → IsWritten stream (length bytes) a c
     → (after_write stream bytes a c).starved ≡ false → write_answer stream (length bytes) c ≡ a
-write_again stream bytes (write.Took n) c is fed = sym is
-write_again stream bytes write.Again c is fed = sym is
-write_again stream bytes write.Closed c is fed = sym is
-write_again stream bytes write.Failed c is fed = rw (was_to_fail c fed) refl
-
-abbrev read_bytes : ℕ → StreamRead → Around → List ℕ → (StreamRead × List ℕ) × Around
-read_bytes stream a v bytes = ((a, bytes), with_host (after_read stream a v.host) v)
-
-abbrev read_as : ℕ → Around → StreamRead → (StreamRead × List ℕ) × Around
-read_as stream v a = ((a, bytes_with stream a v.host), with_host (after_read stream a v.host) v)
+write_again stream bytes a c is fed = grind (arith, common_steps)
 
 read_again : (stream n : ℕ) (a : StreamRead) (bytes : List ℕ) (v : Around) → IsReadOf stream n (a, bytes) v.host
     → answer_around (ReadStream stream n) v ≡ ((a, bytes), with_host (after_read stream a v.host) v)
-read_again stream n (read.Got k) bytes v is = ap (read_as stream v) (sym is.0) ∙ ap (read_bytes stream (read.Got k) v) (sym is.1)
-read_again stream n read.End bytes v is = ap (read_as stream v) (sym is.0) ∙ ap (read_bytes stream read.End v) (sym is.1)
-read_again stream n read.Again bytes v is = ap (read_as stream v) (sym is.0) ∙ ap (read_bytes stream read.Again v) (sym is.1)
-read_again stream n read.Failed bytes v is = ap (read_as stream v) (sym is.0) ∙ ap (read_bytes stream read.Failed v) (sym is.1)
+read_again stream n a bytes v is = grind (arith, common_steps)
 
 step : (call : Call) (a : Answer call) (v : Around) (n : ℕ) (m : Situation) → CanMake call (seen v n) → Allows call a (seen v n) m
     → IsStep call a v m

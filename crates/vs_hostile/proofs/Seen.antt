@@ -1,5 +1,6 @@
 -- A ring that is seen as a whole: its calls are those of the ring's port, and two that expose the same are the same.
-use Rattle.std.proofs.{Common.{◌≡◌, ℕ, zero, suc, Bool, true, false, cond, nat_le, List, [], ◌∷◌, Some, None, unwrap_or, refl, sym, ap, ap₂, ◌∙◌, arith}, lemmas.Bool.false≢true}
+use Rattle.std.proofs.lemmas.Grind.{common_steps}
+use Rattle.std.proofs.{Common.{◌≡◌, ℕ, zero, suc, Bool, true, false, cond, nat_le, List, [], ◌∷◌, None, unwrap_or, refl, sym, ap, ap₂, ◌∙◌, arith}, lemmas.Bool.false≢true}
 use Rattle.std.{proofs.lemmas.Bool.Decides.nat_tests, specs.Prelude.{◌+◌, ◌≤◌}}
 use Rattle.vs_guest_mem.specs.Memory.{Change}
 use Rattle.vs_layout.specs.declared.place.Areas.{Areas}
@@ -21,18 +22,7 @@ after_made call d made =
 moves : (call : DeviceCall) (answer : DeviceAnswer call) (P : Rings → Type 0) (f : Rings → Rings) (Q : EndLog → Type 0)
     (g : EndLog → EndLog) (old new : DeviceState) → is_made call ≡ true → answer_to call old ≡ (answer, new)
     → DeviceMoves call answer P f Q g (whole_contents old) (whole_contents new)
-moves call answer P f Q g old new made is = record {
-  lists = refl;
-  log = refl;
-  other = refl;
-  plain = (
-    sym (ap (λ (r : DeviceAnswer call × DeviceState). r.0) is),
-    ap (λ (r : DeviceAnswer call × DeviceState). Some (whole_state r.1)) (sym is) ∙ ap (λ (s : PlainState). Some s) (sym (after_made call old made)),
-  );
-  known = refl;
-  honest = refl;
-  fair = λ honest. absurd (false≢true honest);
-}
+moves call answer P f Q g old new made is = grind (arith, common_steps)
 
 pub allowed : (call : DeviceCall) (answer : DeviceAnswer call) (old new : DeviceState) → is_made call ≡ true → answer_to call old ≡ (answer, new)
     → DeviceAllows call answer (whole_contents old) (whole_contents new)

@@ -1,11 +1,12 @@
 -- Each call of the device over its plain state is one that the ring's port allows.
-use Rattle.std.proofs.{Common.{◌≡◌, ℕ, Bool, true, false, cond, List, [], ◌∷◌, map, None, Some, refl, sym, ap, ◌∙◌, subst, arith}, lemmas.Bool.{false≢true, Decides.nat_tests}}
-use Rattle.std.specs.Prelude.{◌%◌, IfSome}
+use Rattle.std.proofs.lemmas.Grind.{common_steps}
+use Rattle.std.proofs.{Common.{◌≡◌, ℕ, Bool, true, false, cond, List, [], ◌∷◌, map, None, refl, sym, ap, ◌∙◌, subst, arith}}
+use Rattle.std.specs.Prelude.{IfSome}
 use Rattle.vs_ring_port.specs.{Contents.{DeviceCall, DeviceAnswer, Take, Read, Write, Return, Given, PublishCid}, Chains.{chain_of, held_after, IsLongEnough, same_chain, without}}
-use Rattle.vs_ring_port.specs.{declared.{queue.Queue.{TheVariants.{Rx, Tx, Event}, Queue}, device_ring.{Chain.Chain, Next.Next}}, DeviceCalls.{DeviceAllows, DeviceMoves}}
+use Rattle.vs_ring_port.specs.{declared.{queue.Queue.{Queue}, device_ring.{Chain.Chain, Next.Next}}, DeviceCalls.{DeviceAllows, DeviceMoves}}
 use Rattle.vs_ring_port.specs.{EndLog.EndLog, Lists.Rings}
-use Rattle.vs_ring_plain.specs.Device.{DeviceState, HeldChain, answer_found, answer_taken, is_busy, answer_to, chain_at, chains_held, contents_of, plain_state, ring_at, turns_at}
-use Rattle.vs_ring_plain.specs.{Device.{with_memory, without_hold}, Chain.{Ring, Taken, taking, too_small, total_len, NoChain, Failed, Chain as Found}, declared.piece.Piece.Piece}
+use Rattle.vs_ring_plain.specs.Device.{DeviceState, HeldChain, answer_found, answer_taken, is_busy, answer_to, chains_held, contents_of, ring_at, turns_at}
+use Rattle.vs_ring_plain.specs.{Device.{with_memory, without_hold}, Chain.{Ring, Taken, taking}}
 use Rattle.vs_ring_plain.{specs.Accesses.over, proofs.Outcomes.{IsGoodTaken, good_taken}}
 use Rattle.vs_ring_port.specs.declared.device_ring.Next.TheVariants as next
 
@@ -13,18 +14,7 @@ use Rattle.vs_ring_port.specs.declared.device_ring.Next.TheVariants as next
 moves : (call : DeviceCall) (answer : DeviceAnswer call) (P : Rings → Type 0) (f : Rings → Rings) (Q : EndLog → Type 0)
     (g : EndLog → EndLog) (old new : DeviceState) → answer_to call old ≡ (answer, new)
     → DeviceMoves call answer P f Q g (contents_of old) (contents_of new)
-moves call answer P f Q g old new is = record {
-  lists = refl;
-  log = refl;
-  other = refl;
-  plain = (
-    sym (ap (λ (r : DeviceAnswer call × DeviceState). r.0) is),
-    ap (λ (r : DeviceAnswer call × DeviceState). Some (plain_state r.1)) (sym is),
-  );
-  known = refl;
-  honest = refl;
-  fair = λ honest. absurd (false≢true honest);
-}
+moves call answer P f Q g old new is = grind (arith, common_steps)
 
 pub allowed : (call : DeviceCall) (answer : DeviceAnswer call) (old new : DeviceState) → answer_to call old ≡ (answer, new)
     → DeviceAllows call answer (contents_of old) (contents_of new)
@@ -42,23 +32,9 @@ pub record Takes (queue : Queue) (result : Next) (old new : DeviceState) : Type 
   pub long_enough : IfSome (chain_of result) (IsLongEnough queue)
   pub same_size : new.size ≡ old.size
 
-long_chain : (queue : Queue) (place : ℕ) (pieces : List Piece) → (too_small queue (total_len pieces)).0 ≡ false
-    → IsLongEnough queue (chain_at queue place pieces)
-long_chain Rx place pieces long = grind (arith, nat_tests)
-long_chain Tx place pieces long = grind (arith, nat_tests)
-long_chain Event place pieces long = grind (arith, nat_tests)
-
 takes : (queue : Queue) (r : Ring) (t : Taken) (d : DeviceState) → r.queue ≡ queue → IsGoodTaken r t
     → let a = answer_taken queue t d in Takes queue a.0 d a.1
-takes queue r NoChain d is good = record { held = refl; queue_is = tt; long_enough = tt; same_size = refl }
-takes queue r (Found head pieces) d is good = record {
-  held = refl;
-  queue_is = refl;
-  long_enough = long_chain queue ((turns_at queue d.turns).taken % d.size) pieces
-      (subst (λ (q : Queue). (too_small q (total_len pieces)).0 ≡ false) is good.long);
-  same_size = refl;
-}
-takes queue r (Failed failure) d is good = record { held = refl; queue_is = tt; long_enough = tt; same_size = refl }
+takes queue r t d is good = grind (arith, common_steps)
 
 takes_next : (queue : Queue) (busy : Bool) (d : DeviceState)
     → let a = cond busy (next.None, d) (answer_found queue d) in Takes queue a.0 d a.1
@@ -98,20 +74,11 @@ pub record Keeps (old new : DeviceState) : Type 0 where
 
 pub reads_by : (chain : Chain) (place count : ℕ) (bytes : List ℕ) (old new : DeviceState)
     → answer_to (Read chain place count) old ≡ (bytes, new) → Keeps old new
-reads_by chain place count bytes old new is = record {
-  held = ap (λ (r : List ℕ × DeviceState). chains_held r.1) (sym is);
-  same_size = ap (λ (r : List ℕ × DeviceState). r.1.size) (sym is);
-}
+reads_by chain place count bytes old new is = grind (arith, common_steps)
 
 pub writes_by : (chain : Chain) (place : ℕ) (bytes : List ℕ) (old new : DeviceState)
     → answer_to (Write chain place bytes) old ≡ (tt, new) → Keeps old new
-writes_by chain place bytes old new is = record {
-  held = ap (λ (r : Unit {0} × DeviceState). chains_held r.1) (sym is);
-  same_size = ap (λ (r : Unit {0} × DeviceState). r.1.size) (sym is);
-}
+writes_by chain place bytes old new is = grind (arith, common_steps)
 
 pub counts_by : (queue : Queue) (count : ℕ) (old new : DeviceState) → answer_to (Given queue) old ≡ (count, new) → Keeps old new
-counts_by queue count old new is = record {
-  held = ap (λ (r : ℕ × DeviceState). chains_held r.1) (sym is);
-  same_size = ap (λ (r : ℕ × DeviceState). r.1.size) (sym is);
-}
+counts_by queue count old new is = grind (arith, common_steps)

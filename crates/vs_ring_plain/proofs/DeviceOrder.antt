@@ -1,5 +1,6 @@
 -- The device's end stays in order.
-use Rattle.std.proofs.Common.{◌≡◌, length, map, All, Contains, subst, sym}
+use Rattle.std.proofs.lemmas.Grind.{common_steps}
+use Rattle.std.proofs.Common.{arith, ◌≡◌, length, map, All, Contains, subst, sym}
 use Rattle.vs_guest_mem.specs.Memory.{Memory}
 use Rattle.vs_ring_port.specs.declared.device_ring.Chain.{Chain}
 use Rattle.vs_ring_plain.specs.{declared.device.DeviceSide.TheInside.Inside, declared.turns.QueueTurns.QueueTurns, PieceTable.HeldState}
@@ -14,10 +15,4 @@ held_of d now c seen has = subst (λ (s : DeviceState). Contains (chains_held s)
 pub order_with : (d : Inside) (mem : Memory) (held : HeldState) (turns : QueueTurns) → IsInOrder d → mem.base ≡ d.mem.base
     → length mem.bytes ≡ length d.mem.bytes → held.size ≡ d.held.size → All (IsSoundHold mem) held.chains
     → IsInOrder (record d { mem = mem; held = held; turns = turns })
-order_with d mem held turns order base size room sound = record {
-  nonzero = order.nonzero;
-  limit = order.limit;
-  inside = rw (base, size) order.inside;
-  room = rw room order.room;
-  held = sound;
-}
+order_with d mem held turns order base size room sound = grind (arith, common_steps)

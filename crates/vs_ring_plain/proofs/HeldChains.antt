@@ -1,49 +1,29 @@
 -- The chains that are held, and their pieces.
+use Rattle.std.proofs.lemmas.Grind.{common_steps}
 use Rattle.std.proofs.Common.{inl, inr, ◌≡◌, ℕ, zero, suc, ◌+◌, ◌*◌, ◌<◌, ◌≤◌, ◌==◌, ◌&&◌, ◌||◌, Bool, true, false, cond, not, List, [], ◌∷◌, length, map, get_or, take, drop, Some}
-use Rattle.std.proofs.{Common.{Contains, All, IsTrue, refl, sym, ap, ap₂, ◌∙◌, subst, arith}, lemmas.Bool.{false≢true, cases_lt, lt-ltb, eqb-true, Decides.nat_tests}}
-use Rattle.std.proofs.lemmas.List.{Elements.{All-cons, All-head, All-tail, All-append, All-take, All-drop, All-nil}, Sums.{fails_before_first, passes_at_first, position_or_len_is}}
+use Rattle.std.proofs.{Common.{Contains, All, IsTrue, refl, sym, ap, ap₂, ◌∙◌, subst, arith}, lemmas.Bool.{false≢true, cases_lt, lt-ltb, Decides.nat_tests}}
+use Rattle.std.proofs.lemmas.List.{Elements.{All-cons, All-head, All-tail, All-append, All-take, All-drop}, Sums.{fails_before_first, passes_at_first, position_or_len_is}}
 use Rattle.std.{proofs.lemmas.List.{Sums.sum_by-cons, get_or-map, length-map, Quantifiers.position-Some}, specs.{Prelude.{count_by, nat_le, nat_lt}, List.position}}
 use Rattle.std.specs.{List.{position_or_len, remove}, Option.IsSome, VecDeque.deque_capacity}
 use Rattle.vs_guest_mem.specs.Memory.{Memory, is_inside}
 use Rattle.vs_ring_port.specs.{declared.{queue.Queue.{TheVariants.{Rx, Tx, Event}, Queue}, device_ring.Chain.Chain}, Chains.{same_chain, same_queue}}
-use Rattle.vs_ring_plain.specs.declared.{holds.{HeldPieces.{TheVariants.{One, Listed}, HeldPieces}, Hold.Hold, HeldChains.TheInside.Inside}, piece.Piece.Piece}
+use Rattle.vs_ring_plain.specs.declared.{holds.{HeldPieces.{TheVariants.{Listed}, HeldPieces}, Hold.Hold, HeldChains.TheInside.Inside}, piece.Piece.Piece}
 use Rattle.vs_ring_plain.specs.{declared.take.PlainQueue.PlainQueue, Device.{HeldChain, chain_at, hold_of, is_busy, pieces_of, readable_in, without_hold, writable_in}}
 use Rattle.vs_ring_plain.specs.{PieceTable.{HeldState, PieceTable, is_listed, keeping, list_at, pieces_in, with_list}, Accesses.over, Held.{IsKept, KeepsAll, all_held, held_as}}
 use Rattle.vs_ring_plain.specs.{Held.{held_in, is_busy_with}, Side.IsSoundHold, Take.ring_in, Chain.{Taken, taking, total_len, NoChain, Failed, Chain as Found}}
 use Rattle.vs_ring_plain.proofs.Outcomes.{IsGood, IsGoodTaken, good_taken}
 
 same_queue_refl : (q : Queue) → same_queue q q ≡ true
-same_queue_refl Rx = refl
-same_queue_refl Tx = refl
-same_queue_refl Event = refl
+same_queue_refl q = grind (arith, common_steps)
 
 same_queue_is : (a b : Queue) → same_queue a b ≡ true → a ≡ b
-same_queue_is Rx Rx e = refl
-same_queue_is Rx Tx e = absurd (false≢true e)
-same_queue_is Rx Event e = absurd (false≢true e)
-same_queue_is Tx Rx e = absurd (false≢true e)
-same_queue_is Tx Tx e = refl
-same_queue_is Tx Event e = absurd (false≢true e)
-same_queue_is Event Rx e = absurd (false≢true e)
-same_queue_is Event Tx e = absurd (false≢true e)
-same_queue_is Event Event e = refl
+same_queue_is a b e = grind (arith, common_steps)
 
 pub same_chain_refl : (c : Chain) → same_chain c c ≡ true
 same_chain_refl c = rw (same_queue_refl c.queue) (grind arith)
 
-four_true : (s p r w : Bool) → (s && p && r && w) ≡ true → (s ≡ true) × (p ≡ true) × (r ≡ true) × (w ≡ true)
-four_true true true true true e = (refl, refl, refl, refl)
-four_true true true true false e = absurd (false≢true e)
-four_true true true false w e = absurd (false≢true e)
-four_true true false r w e = absurd (false≢true e)
-four_true false p r w e = absurd (false≢true e)
-
 same_chain_is : (a b : Chain) → same_chain a b ≡ true → a ≡ b
-same_chain_is a b e =
-    let all = four_true (same_queue a.queue b.queue) (a.place == b.place) (a.readable == b.readable) (a.writable == b.writable) e in
-    let of : Queue → ℕ → ℕ → ℕ → Chain = λ q p r w. record { queue = q; place = p; readable = r; writable = w } in
-    ap₂ (λ q p. of q p a.readable a.writable) (same_queue_is a.queue b.queue all.0) (eqb-true a.place b.place all.1)
-    ∙ ap₂ (of b.queue b.place) (eqb-true a.readable b.readable all.2) (eqb-true a.writable b.writable all.3)
+same_chain_is a b e = grind (arith, common_steps)
 
 -- the newest hold of c stands at i
 record IsFirst (c : Chain) (holds : List Hold) (i : ℕ) (d : Hold) : Type 0 where
@@ -131,10 +111,7 @@ count_listed-cons q h holds = sum_by-cons (λ (x : Hold). cond (same_queue q x.c
 
 count-all_held : (q : Queue) (lists : PieceTable) (holds : List Hold)
     → count_by (λ (x : HeldChain). same_queue q x.chain.queue) (all_held lists holds) ≡ count_by (λ (x : Hold). same_queue q x.chain.queue) holds
-count-all_held q lists [] = refl
-count-all_held q lists (h ∷ holds) =
-    sum_by-cons (λ (x : HeldChain). cond (same_queue q x.chain.queue) 1 0) (held_as lists h) (all_held lists holds)
-    ∙ ap (λ n. cond (same_queue q h.chain.queue) 1 0 + n) (count-all_held q lists holds) ∙ sym (count-cons q h holds)
+count-all_held q lists holds = grind (arith, common_steps)
 
 count_listed-all_held : (q : Queue) (lists : PieceTable) (holds : List Hold) → All (IsKept lists) holds
     → count_by (λ (x : HeldChain). same_queue q x.chain.queue && not (length x.pieces == 1)) (all_held lists holds)
@@ -171,25 +148,9 @@ is_free q n lists holds kept free =
     two_false true b e = absurd (false≢true (sym e))
 
 -- the list of one queue is another: holds that don't have their pieces there are seen as before
-same_list : (a b : Queue) (list : List Piece) (lists : PieceTable) → same_queue a b ≡ false → list_at b (with_list a list lists) ≡ list_at b lists
-same_list Rx Rx list lists e = absurd (false≢true (sym e))
-same_list Rx Tx list lists e = refl
-same_list Rx Event list lists e = refl
-same_list Tx Rx list lists e = refl
-same_list Tx Tx list lists e = absurd (false≢true (sym e))
-same_list Tx Event list lists e = refl
-same_list Event Rx list lists e = refl
-same_list Event Tx list lists e = refl
-same_list Event Event list lists e = absurd (false≢true (sym e))
-
 seen_as : (q : Queue) (list : List Piece) (lists : PieceTable) (of : Queue) (pieces : HeldPieces) → (same_queue q of && is_listed pieces) ≡ false
     → pieces_in pieces (list_at of (with_list q list lists)) ≡ pieces_in pieces (list_at of lists)
-seen_as q list lists of (One piece) e = refl
-seen_as q list lists of Listed e = same_list q of list lists (and_true (same_queue q of) e)
-  where
-    and_true : (b : Bool) → (b && true) ≡ false → b ≡ false
-    and_true true h = absurd (false≢true (sym h))
-    and_true false h = refl
+seen_as q list lists of pieces e = grind (arith, common_steps)
 
 none_here : (b : Bool) (n : ℕ) → cond b 1 0 + n ≡ 0 → (b ≡ false) × (n ≡ 0)
 none_here true n e = absurd (omega (arith, e))
@@ -211,12 +172,7 @@ all_same q list lists (h ∷ holds) e =
 pub kept_same : (q : Queue) (list : List Piece) (lists : PieceTable) (holds : List Hold)
     → count_by (λ (x : Hold). same_queue q x.chain.queue && is_listed x.pieces) holds ≡ 0
     → All (IsKept lists) holds → All (IsKept (with_list q list lists)) holds
-kept_same q list lists [] e kept = All-nil (IsKept (with_list q list lists))
-kept_same q list lists (h ∷ holds) e kept =
-    let n = none_here (same_queue q h.chain.queue && is_listed h.pieces) _ (sym (count_listed-cons q h holds) ∙ e) in
-    All-cons (IsKept (with_list q list lists)) h holds
-    (subst (λ (x : HeldChain). is_listed h.pieces ≡ not (length x.pieces == 1)) (sym (held_same q list lists h n.0)) (All-head (IsKept lists) h holds kept))
-    (kept_same q list lists holds n.1 (All-tail (IsKept lists) h holds kept))
+kept_same q list lists holds e kept = grind (arith, common_steps)
 
 pub few_more : (q : Queue) (n : ℕ) (h : Hold) (holds : List Hold) → h.chain.queue ≡ q
     → count_by (λ (x : Hold). same_queue q x.chain.queue) holds < n
@@ -266,9 +222,7 @@ kept_left lists holds i all =
     All-append (IsKept lists) (take i holds) (drop (suc i) holds) (All-take (IsKept lists) i holds all) (All-drop (IsKept lists) (suc i) holds all)
 
 same_room_with : (q : Queue) (list : List Piece) (lists : PieceTable) → (with_list q list lists).room ≡ lists.room
-same_room_with Rx list lists = refl
-same_room_with Tx list lists = refl
-same_room_with Event list lists = refl
+same_room_with q list lists = grind (arith, common_steps)
 
 pub free_in : (q : Queue) (h : Inside) (now : HeldState) → held_in h ≡ now → is_busy q now.size now.chains ≡ false
     → is_busy q h.size (all_held h.lists h.holds.items) ≡ false
@@ -315,13 +269,7 @@ module _ (q : Queue) (h : Inside) (order : KeepsAll h) (free : is_busy q h.size 
 pub kept_hold : (q : Queue) (new : PieceTable) (x : Hold) (place : ℕ) → x.chain ≡ chain_at q place (list_at q new)
     → pieces_in x.pieces (list_at q new) ≡ list_at q new → is_listed x.pieces ≡ not (length (list_at q new) == 1)
     → IsKept new x × (held_as new x ≡ record { chain = chain_at q place (list_at q new); head = x.head; pieces = list_at q new })
-kept_hold q new x place chain pieces several =
-    let queue : x.chain.queue ≡ q = ap (λ (c : Chain). c.queue) chain in
-    let here : pieces_in x.pieces (list_at x.chain.queue new) ≡ list_at q new =
-    ap (λ (k : Queue). pieces_in x.pieces (list_at k new)) queue ∙ pieces in (
-      several ∙ ap (λ (ps : List Piece). not (length ps == 1)) (sym here),
-      ap₂ (λ (c : Chain) (ps : List Piece). let y : HeldChain = record { chain = c; head = x.head; pieces = ps } in y) chain here,
-    )
+kept_hold q new x place chain pieces several = grind (arith, common_steps)
 
 -- one chain is let go
 pub keeps_less : (c : Chain) (h now : Inside) (i : ℕ) (x : Hold) → KeepsAll h → IsFound c h.holds.items i x → now.size ≡ h.size
@@ -368,14 +316,10 @@ pub held_inside : (m : Memory) (c : Chain) (held : List HeldChain) → Contains 
 held_inside m c held has all = let h = is_held m c held has all in rw h.is h.sound.inside
 
 readable_fits : (queue : Queue) (pieces : List Piece) → readable_in queue pieces ≤ total_len pieces
-readable_fits Rx pieces = omega arith
-readable_fits Tx pieces = omega arith
-readable_fits Event pieces = omega arith
+readable_fits queue pieces = grind (arith, common_steps)
 
 writable_fits : (queue : Queue) (pieces : List Piece) → writable_in queue pieces ≤ total_len pieces
-writable_fits Rx pieces = omega arith
-writable_fits Tx pieces = omega arith
-writable_fits Event pieces = omega arith
+writable_fits queue pieces = grind (arith, common_steps)
 
 pub held_readable : (m : Memory) (c : Chain) (held : List HeldChain) → Contains (map (λ (h : HeldChain). h.chain) held) c
     → All (IsSoundHold m) held → c.readable ≤ total_len (pieces_of (hold_of c held))
@@ -390,15 +334,9 @@ held_writable m c held has all =
     rw h.is (omega (arith, ap (λ (k : Chain). k.writable) h.same, h.sound.writable, writable_fits h.hold.chain.queue h.hold.pieces))
 
 -- in a memory that begins and ends where the other does, chains are as sound
-sound_hold_in : (m new : Memory) (h : HeldChain) → new.base ≡ m.base → length new.bytes ≡ length m.bytes → IsSoundHold m h → IsSoundHold new h
-sound_hold_in m new h base size s = record { inside = rw (base, size) s.inside; readable = s.readable; writable = s.writable }
-
 pub sound_in : (m new : Memory) (held : List HeldChain) → new.base ≡ m.base → length new.bytes ≡ length m.bytes → All (IsSoundHold m) held
     → All (IsSoundHold new) held
-sound_in m new [] base size all = All-nil (IsSoundHold new)
-sound_in m new (h ∷ held) base size all =
-    All-cons (IsSoundHold new) h held (sound_hold_in m new h base size (All-head (IsSoundHold m) h held all))
-    (sound_in m new held base size (All-tail (IsSoundHold m) h held all))
+sound_in m new held base size all = grind (arith, common_steps)
 
 -- so they are where one is let go
 pub sound_left : (m : Memory) (c : Chain) (held : List HeldChain) → All (IsSoundHold m) held → All (IsSoundHold m) (without_hold c held)

@@ -1,9 +1,10 @@
 -- Taking a chain of one descriptor from a memory that nobody else changes.
-use Rattle.std.proofs.{Common.{◌≡◌, ℕ, suc, ◌-◌, ◌/◌, ◌<◌, Bool, true, false, cond, not, List, [], ◌∷◌, refl, sym, ap, ◌∙◌, subst, arith}, lemmas.Bool.Decides.nat_tests}
+use Rattle.std.proofs.lemmas.Grind.{common_steps}
+use Rattle.std.proofs.{Common.{◌≡◌, ℕ, suc, ◌-◌, ◌<◌, Bool, true, false, cond, List, [], ◌∷◌, refl, sym, ap, ◌∙◌, subst, arith}, lemmas.Bool.Decides.nat_tests}
 use Rattle.std.specs.Prelude.{◌==◌, nat_le, nat_lt}
 use Rattle.vs_guest_mem.specs.Memory.{Change, Memory, after_access, bytes_at, is_within}
-use Rattle.vs_layout.specs.{declared.entry.{TheConstants.{DESC_LEN, INDIRECT, NEXT}, Desc.Desc}, Entry.desc_of, Layout.desc_entry}
-use Rattle.vs_ring_plain.specs.Chain.{Ring, Taken, Chain, Failed, NoChain, ahead, has, in_queue, in_table, piece, piece_of, table_faults, taking, too_small, total_len, unless}
+use Rattle.vs_layout.specs.{declared.entry.{TheConstants.{INDIRECT, NEXT}, Desc.Desc}, Entry.desc_of, Layout.desc_entry}
+use Rattle.vs_ring_plain.specs.Chain.{Ring, Taken, Chain, Failed, NoChain, ahead, has, in_queue, piece_of, taking, too_small, total_len, unless}
 use Rattle.vs_ring_plain.specs.{Chain.wrong_way, declared.piece.Piece.Piece, Accesses.{Accesses, Done, over}, Still.{IsGiven, IsStill, index_in}}
 use Rattle.vs_ring_port.specs.declared.failure.Failure.{Failure, TheVariants.HeadRange}
 
@@ -33,17 +34,7 @@ last_one : (r : Ring) (left head base accesses : ℕ) (bytes : List ℕ) (d : De
     → head < r.n → desc_of (bytes_at (quiet base bytes accesses) (desc_entry r.areas head).at 16) ≡ d → has d INDIRECT ≡ false
     → has d NEXT ≡ false → (wrong_way r.queue head d).0 ≡ false → is_within r.base r.size d.addr d.len ≡ true
     → over (in_queue r (suc left) head [] ends) (quiet base bytes accesses) ≡ over (ends (piece_of d ∷ [])) (after_access (quiet base bytes accesses))
-last_one r left head base accesses bytes d ends within desc direct last way inside =
-    let m = quiet base bytes accesses in
-    let some : nat_le r.n head ≡ false = grind (arith, nat_tests, within) in
-    let m1 = after_access m in
-    skips (nat_le r.n head) _ _ m some
-    ∙ ap (λ (x : Desc). over (cond (has x INDIRECT) (unless (table_faults r head x) (in_table r x.addr (x.len / DESC_LEN) (suc left) 0 [] ends))
-    (piece r head x [] ends (λ now. in_queue r left x.next now ends))) m1) desc
-    ∙ chosen (has d INDIRECT) _ _ m1 direct
-    ∙ skips (wrong_way r.queue head d).0 _ _ m1 way
-    ∙ skips (not (is_within r.base r.size d.addr d.len)) _ _ m1 (ap not inside)
-    ∙ chosen (has d NEXT) _ _ m1 last
+last_one r left head base accesses bytes d ends within desc direct last way inside = grind (arith, common_steps)
 
 -- what comes at the end of the chain
 abbrev ends_with : Ring → ℕ → List Piece → Accesses Taken
@@ -77,21 +68,6 @@ taken_still r taken head d m still g =
     (sym (is_quiet m still))
     (taken_quiet r taken head m.base m.accesses m.bytes d (subst (λ (x : Memory). IsGiven r taken head d x) (is_quiet m still) g))
 
-none_quiet : (r : Ring) (taken base accesses : ℕ) (bytes : List ℕ) → ahead (index_in r (quiet base bytes accesses)) taken ≡ 0
-    → over (taking r taken) (quiet base bytes accesses) ≡ (NoChain, after_access (quiet base bytes accesses))
-none_quiet r taken base accesses bytes none =
-    let m = quiet base bytes accesses in
-    let m1 = after_access m in
-    let idx = index_in r m in
-    let few : nat_lt r.n (ahead idx taken) ≡ false = grind (arith, nat_tests, none) in
-    let no : (ahead idx taken == 0) ≡ true = grind (arith, nat_tests, none) in
-    skips (nat_lt r.n (ahead idx taken)) _ _ m1 few ∙ first_of (ahead idx taken == 0) _ _ m1 no
-  where
-    first_of : (b : Bool) (x y : Accesses Taken) (m : Memory) → b ≡ true → over (cond b x y) m ≡ over x m
-    first_of b x y m on = rw on refl
-
 pub none_still : (r : Ring) (taken : ℕ) (m : Memory) → IsStill m → ahead (index_in r m) taken ≡ 0
     → over (taking r taken) m ≡ (NoChain, after_access m)
-none_still r taken m still none =
-    subst (λ (x : Memory). over (taking r taken) x ≡ (NoChain, after_access x)) (sym (is_quiet m still))
-    (none_quiet r taken m.base m.accesses m.bytes (subst (λ (x : Memory). ahead (index_in r x) taken ≡ 0) (is_quiet m still) none))
+none_still r taken m still none = grind (arith, common_steps)

@@ -1,4 +1,5 @@
 -- Reading the descriptors of a chain one after another.
+use Rattle.std.proofs.lemmas.Grind.{common_steps}
 use Rattle.std.proofs.Common.{◌≡◌, ℕ, suc, ◌+◌, ◌-◌, ◌*◌, ◌/◌, ◌<◌, ◌≤◌, Bool, true, false, not, List, [], ◌∷◌, ◌++◌, length, Ok, Err, refl, sym, ap, ◌∙◌, arith, length-append}
 use Rattle.std.{proofs.lemmas.Bool.Decides.nat_tests, specs.Prelude.{◌≢◌, ◌==◌, bit_and, nat_le, if◌then◌else◌}}
 use Rattle.vs_guest_mem.specs.Memory.{Memory, after_access, bytes_at}
@@ -68,11 +69,7 @@ table_reads r at entries rest number before ends m d near is =
     rw near (ap (λ (e : Desc). over (after_desc r at entries rest number before ends e) (after_access m)) (sym is))
 
 pub table_walk : (r : Ring) (at entries : ℕ) → IsWalk r entries (λ (k : ℕ). at + 16 * k) (in_table r at entries)
-table_walk r at entries = record {
-  long = λ number before ends m. refl;
-  range = λ rest number before ends m far. rw far refl;
-  piece = λ rest number before ends m d near is plain. table_reads r at entries rest number before ends m d near is ∙ rw plain refl;
-}
+table_walk r at entries = grind (arith, common_steps)
 
 -- what is done with a descriptor of the queue
 abbrev pub after_queue_desc : Ring → ℕ → ℕ → List Piece → (List Piece → Accesses Taken) → Desc → Accesses Taken
@@ -88,11 +85,7 @@ queue_reads r rest number before ends m d near is =
     rw near (ap (λ (e : Desc). over (after_queue_desc r rest number before ends e) (after_access m)) (sym is))
 
 pub queue_walk : (r : Ring) → IsWalk r r.n (λ (k : ℕ). r.areas.desc + 16 * k) (in_queue r)
-queue_walk r = record {
-  long = λ number before ends m. refl;
-  range = λ rest number before ends m far. rw far refl;
-  piece = λ rest number before ends m d near is plain. queue_reads r rest number before ends m d near is ∙ rw plain refl;
-}
+queue_walk r = grind (arith, common_steps)
 
 same_ring : (q : PlainQueue) (m first : Memory) → m.base ≡ first.base → length m.bytes ≡ length first.bytes → ring_in q m ≡ ring_in q first
 same_ring q m first base size = cc
@@ -163,9 +156,7 @@ fewer a pieces = a.queue.n - length pieces - 1
 -- the first walk, where one more descriptor may be read
 one_more : (a : Along) (m : Memory) (pieces : List Piece) (number : ℕ) → Comes a m pieces number → length pieces < a.queue.n
     → (ends : List Piece → Accesses Taken) → a.whole ends ≡ over (a.walk (suc (fewer a pieces)) number pieces ends) m
-one_more a m pieces number w some ends =
-    let counts : a.queue.n - length pieces ≡ suc (fewer a pieces) = omega arith in
-    sym (w.rest ends) ∙ ap (λ (k : ℕ). over (a.walk k number pieces ends) m) counts
+one_more a m pieces number w some ends = grind (arith, common_steps)
 
 pub exit_range : (a : Along) (m : Memory) (pieces : List Piece) (number : ℕ) → Comes a m pieces number → length pieces < a.queue.n
     → a.entries ≤ number
@@ -181,12 +172,7 @@ at_piece : (a : Along) (m now : Memory) (pieces : List Piece) (number : ℕ) (d 
     → ReadsEntry a m now pieces number d
     → bit_and d.flags INDIRECT ≡ 0 → (ends : List Piece → Accesses Taken)
     → a.whole ends ≡ over (piece (ring_in a.queue a.first) number d pieces ends (λ found. a.walk (fewer a pieces) d.next found ends)) now
-at_piece a m now pieces number d w e plain ends =
-    one_more a m pieces number w e.some ends
-    ∙ a.is_walk.piece (fewer a pieces) number pieces ends m d (near_test a.entries number e.near)
-    (was_read a m now pieces number d e) (unset (bit_and d.flags INDIRECT) plain)
-    ∙ ap (λ (x : Memory). over (piece (ring_in a.queue a.first) number d pieces ends (λ found. a.walk
-    (fewer a pieces) d.next found ends)) x) (sym e.memory)
+at_piece a m now pieces number d w e plain ends = grind (arith, common_steps)
 
 -- the ring is the one that the walk began with
 pub ring_now : (a : Along) (m now : Memory) (pieces : List Piece) (number : ℕ) (d : Desc) → Comes a m pieces number

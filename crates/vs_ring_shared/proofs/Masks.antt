@@ -1,15 +1,13 @@
 -- A number by which 2 ^ 16 can be divided is a power of two, and what is left of another divided by it is its low bits.
-use Rattle.std.proofs.{Common.{◌≡◌, ℕ, zero, suc, ◌+◌, ◌-◌, ◌*◌, ◌/◌, ◌%◌, ◌^◌, ◌<◌, refl, sym, ap, ◌∙◌, subst, arith}, lemmas.Nat.and_mask}
+use Rattle.std.proofs.lemmas.Grind.{common_steps}
+use Rattle.std.proofs.{Common.{◌≡◌, ℕ, zero, suc, ◌+◌, ◌-◌, ◌*◌, ◌/◌, ◌%◌, ◌^◌, ◌<◌, sym, ap, ◌∙◌, subst, arith}, lemmas.Nat.and_mask}
 use lib.Bits.{bit_and}
 
 abbrev IsPower : ℕ → Type 0
 IsPower n = (j : ℕ) × (n ≡ 2 ^ j)
 
 one_of : (n m : ℕ) → 1 ≡ n * m → n ≡ 1
-one_of zero m is = absurd (grind (arith, is))
-one_of (suc zero) m is = refl
-one_of (suc (suc n)) zero is = absurd (grind (arith, is))
-one_of (suc (suc n)) (suc m) is = absurd (grind (arith, is))
+one_of n m is = grind (arith, common_steps)
 
 -- of two numbers whose product is even one is even
 halves : (p a b r s : ℕ) → 2 * p ≡ (2 * a + r) * (2 * b + s) → r < 2 → s < 2 → (p ≡ a * (2 * b + s) → IsPower a)
