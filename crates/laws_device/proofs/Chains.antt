@@ -1,8 +1,9 @@
 -- Chains that the device holds, and what is written into them.
-use Rattle.std.proofs.Common.{◌≡◌, ℕ, suc, ◌+◌, ◌==◌, ◌&&◌, Bool, true, false, cond, List, [], ◌∷◌, ◌++◌, Contains, length, take, drop, Option, Some, None, refl, sym, ap, subst}
-use Rattle.std.proofs.{Common.{◌∙◌, arith, length-append, IfSome}, lemmas.{Bool.{Decides.nat_tests, and_parts}, List.take_at}}
+use Rattle.std.proofs.lemmas.Grind.{common_steps}
+use Rattle.std.proofs.Common.{◌≡◌, ℕ, suc, ◌+◌, Bool, true, false, cond, List, [], ◌∷◌, ◌++◌, Contains, length, take, drop, Option, Some, None, refl, sym, ap, subst}
+use Rattle.std.proofs.{Common.{◌∙◌, arith, IfSome}, lemmas.{List.take_at}}
 use Rattle.vs_page.specs.Overwriting.{overwritten}
-use Rattle.vs_ring_port.specs.{Chains.{Held, bytes_in, chains_of, same_chain, same_queue, with_bytes, without_held}, declared.queue.Queue.{TheVariants.{Rx, Tx, Event}, Queue}}
+use Rattle.vs_ring_port.specs.{Chains.{Held, bytes_in, chains_of, same_chain, same_queue, with_bytes, without_held}, declared.queue.Queue.{TheVariants.{Rx}}}
 use Rattle.vs_ring_port.specs.declared.device_ring.Chain.{Chain}
 use Rattle.vs_device_parts.specs.Playing.{IsRxChain}
 use Rattle.laws_device.{specs.Honest.{is_held, unwritten}, proofs.Ringing.same_self}
@@ -23,28 +24,8 @@ Among H (Some chain) held = Holds chain is_unwritten H held
 abbrev pub Behind : (List Held → Type 0) → Chain → List ℕ → Option Chain → List Held → Type 0
 Behind H chain page o held = (rest : List Held) × (held ≡ record { chain = chain; bytes = page } ∷ rest) × Among H o rest
 
-same_is : (a b : Queue) → same_queue a b ≡ true → a ≡ b
-same_is Rx Rx is = refl
-same_is Tx Tx is = refl
-same_is Event Event is = refl
-same_is Rx Tx is = absurd cc
-same_is Rx Event is = absurd cc
-same_is Tx Rx is = absurd cc
-same_is Tx Event is = absurd cc
-same_is Event _ is = absurd cc
-
 chain_is : (a b : Chain) → same_chain a b ≡ true → a ≡ b
-chain_is a b is =
-    let last = and_parts (same_queue a.queue b.queue && a.place == b.place && a.readable == b.readable) (a.writable == b.writable) is in
-    let third = and_parts (same_queue a.queue b.queue && a.place == b.place) (a.readable == b.readable) last.0 in
-    let first = and_parts (same_queue a.queue b.queue) (a.place == b.place) third.0 in
-    let place : a.place ≡ b.place = grind (arith, nat_tests, first.1) in
-    let readable : a.readable ≡ b.readable = grind (arith, nat_tests, third.1) in
-    let writable : a.writable ≡ b.writable = grind (arith, nat_tests, last.1) in
-    ap (λ (q : Queue). let c : Chain = record a { queue = q } in c) (same_is a.queue b.queue first.0)
-    ∙ ap (λ (n : ℕ). let c : Chain = record b { place = n; readable = a.readable; writable = a.writable } in c) place
-    ∙ ap (λ (n : ℕ). let c : Chain = record b { readable = n; writable = a.writable } in c) readable
-    ∙ ap (λ (n : ℕ). let c : Chain = record b { writable = n } in c) writable
+chain_is a b is = grind (arith, common_steps)
 
 pub held_there : (chain : Chain) (held : List Held) → is_held chain held ≡ true → Contains (chains_of held) chain
 held_there chain [] is = absurd cc
@@ -79,29 +60,12 @@ taken_holds chain bytes B P held b p = let same = same_self chain in rw same (re
 
 -- Chains of two queues are not the same.
 apart : (c d : Chain) → c.queue ≡ Rx → same_queue d.queue Rx ≡ false → same_chain c d ≡ false
-apart c d rx other = by c.queue d.queue rx other
-  where
-    by : (x y : Queue) → x ≡ Rx → same_queue y Rx ≡ false → (same_queue x y && c.place == d.place && c.readable == d.readable && c.writable == d.writable) ≡ false
-    by Rx Rx is differ = absurd cc
-    by Rx Tx is differ = refl
-    by Rx Event is differ = refl
-    by _ y is differ = absurd cc
+apart c d rx other = grind (arith, common_steps)
 
 -- One chain of another queue more, written into, or less.
 module _ (c d : Chain) (rx : c.queue ≡ Rx) (other : same_queue d.queue Rx ≡ false) where
   apart_from : (h : Held) → same_chain d h.chain ≡ true → same_chain c h.chain ≡ false
   apart_from h same = subst (λ (e : Chain). same_chain c e ≡ false) (chain_is d h.chain same) (apart c d rx other)
-
-  kept_written : (bytes : List ℕ) (held : List Held) → (is_held c (with_bytes d bytes held) ≡ is_held c held) × (bytes_in c (with_bytes d bytes held) ≡ bytes_in c held)
-  kept_written bytes [] = (refl, refl)
-  kept_written bytes (h ∷ held) = by (same_chain d h.chain) refl (kept_written bytes held)
-    where
-      by : (b : Bool) → same_chain d h.chain ≡ b
-          → (is_held c (with_bytes d bytes held) ≡ is_held c held) × (bytes_in c (with_bytes d bytes held) ≡ bytes_in c held)
-          → let now : List Held = cond b (record h { bytes = bytes } ∷ held) (h ∷ with_bytes d bytes held) in
-          (is_held c now ≡ is_held c (h ∷ held)) × (bytes_in c now ≡ bytes_in c (h ∷ held))
-      by true same rest = let no = apart_from h same in rw no (refl, refl)
-      by false same (there, bytes_are) = (ap (λ (b : Bool). cond (same_chain c h.chain) true b) there, ap (λ (b : List ℕ). cond (same_chain c h.chain) h.bytes b) bytes_are)
 
   kept_without : (held : List Held) → (is_held c (without_held d held) ≡ is_held c held) × (bytes_in c (without_held d held) ≡ bytes_in c held)
   kept_without [] = (refl, refl)
@@ -148,7 +112,4 @@ pub first_written : (old new : List ℕ) (n : ℕ) → length new ≡ n → take
 first_written old new n len = take_at new (drop (0 + length new) old) n len
 
 pub both_written : (old new more : List ℕ) (n : ℕ) → take n old ≡ new → length new ≡ n → take (n + length more) (overwritten old n more) ≡ new ++ more
-both_written old new more n front len =
-    let rest = drop (n + length more) old in
-    ap (λ (xs : List ℕ). take (n + length more) (xs ++ more ++ rest)) front
-    ∙ take_at (new ++ more) rest (n + length more) (length-append new more ∙ ap (λ (k : ℕ). k + length more) len)
+both_written old new more n front len = grind (arith, common_steps)

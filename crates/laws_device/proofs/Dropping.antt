@@ -1,20 +1,21 @@
 -- Over an honest ring that tells its log the device counts just the packets of the log that it drops, and its ring doesn't fail.
-use Rattle.std.proofs.Common.{◌≡◌, ℕ, ◌+◌, ◌-◌, ◌^◌, min, nat_lt, Bool, true, false, cond, List, [], ◌∷◌, length, take, drop, Option, Some, None, refl, sym, ap, subst, ◌∙◌, arith}
+use Rattle.std.proofs.lemmas.Grind.{common_steps}
+use Rattle.std.proofs.Common.{◌≡◌, ℕ, ◌-◌, nat_lt, Bool, true, false, cond, List, [], ◌∷◌, length, take, drop, Option, Some, None, refl, sym, ap, subst, ◌∙◌, arith}
 use Rattle.std.{proofs.lemmas.Bool.Decides.nat_tests, specs.{Option.ForSome, Prelude.IsSomeAnd}}
 use Rattle.byteorder.specs.Endian.{little_bytes}
 use Rattle.vs_contents.specs.CallTree.{Done, Ask}
 use Rattle.vs_header.specs.{Packet.{header_bytes, header_of}, declared.{Header.Header, TheConstants.HEADER_LEN}}
 use Rattle.laws_history.specs.{Packets.{packet_bytes, size}, declared.packet.Packet.Packet}
-use Rattle.vs_page.specs.{declared.log.LogEntry.TheVariants.{GotPacket, PutEvent, PutPacket}, Fair.IsFairLog, Held.{event_held, packet_held}, Log.{Device, Log, flow_got}}
-use Rattle.vs_page.{specs.Open.{cid_of, is_dropped}, proofs.Holding.packet_whole}
+use Rattle.vs_page.specs.{declared.log.LogEntry.TheVariants.{GotPacket}, Fair.IsFairLog, Held.{packet_held}, Log.{Device, Log, flow_got}}
+use Rattle.vs_page.{specs.Open.{is_dropped}, proofs.Holding.packet_whole}
 use Rattle.vs_ring_port.specs.{Chains.{Held, bytes_in}, Contents.{DeviceAnswer, DeviceCall, PublishCid, Return, RingContents, Take, Write}, DeviceCalls.{DeviceAllows, DeviceMoves}}
-use Rattle.vs_ring_port.specs.{DeviceCalls.{IsTakenAs, IsTakenWhole}, EndLog.{EndLog, entries_returned, log_reset, log_returned, log_taken, log_written, with_event, with_packet}}
+use Rattle.vs_ring_port.specs.{DeviceCalls.{IsTakenAs, IsTakenWhole}, EndLog.{EndLog, entries_returned, log_reset, log_returned, log_taken, log_written, with_packet}}
 use Rattle.vs_ring_port.specs.{Lists.Rings, declared.{device_ring.{Chain.Chain, Next.Next}, queue.Queue.{Queue, TheVariants.{Event, Rx, Tx}}}}
 use Rattle.vs_wrap.specs.Wrap.{counted}
 use Rattle.laws_tables.proofs.Fair.{got_formed}
 use Rattle.vs_device_parts.specs.{Calls.{Accept, Answer, Call, CloseStream, DeviceTree, Dial, Label, ReadStream, Ring, ShutWrite, Situation, WriteStream}, Playing.Runs}
 use Rattle.vs_device_parts.specs.Receiving.{written}
-use Rattle.laws_device.{specs.Dropped.{IsCounted, dropped_in}, proofs.Walk.{Fields.{AfterEventPage, AfterTx, Calls, Fields, HeaderRead, TxCalls, after_rx}, Keeping.Asking}}
+use Rattle.laws_device.{specs.Dropped.{IsCounted}, proofs.Walk.{Fields.{AfterEventPage, AfterTx, Calls, Fields, HeaderRead, TxCalls, after_rx}, Keeping.Asking}}
 use Rattle.laws_device.proofs.{Walk.Single.OneByOne, Keeping.{Keeps, Lets, lets}, Named.Keeping.asking as asked, Ringing.{Telling, Tells, bytes_held, moves}}
 use Rattle.laws_device.proofs.Transmitting.{header_is}
 use Rattle.laws_device.proofs.Walk.Keeping as walked
@@ -76,29 +77,11 @@ module _ (first : ℕ) where
   -- A page that isn't of tx is taken.
   taken_other : (queue : Queue) (n : Fields) (a : Next) (page : Option (List ℕ)) (l : EndLog) → (queue ≡ Tx → ⊥) → IsTakenWhole queue a page → At n l
       → At n (log_taken queue a page l)
-  taken_other Tx n a page l other whole at = absurd (other refl)
-  taken_other Rx n (next.Chain chain) None l other whole at = at
-  taken_other Rx n (next.Chain chain) (Some page) l other whole at = at
-  taken_other Rx n next.None page l other whole at = at
-  taken_other Rx n (next.Failed f) page l other whole at = absurd whole
-  taken_other Event n (next.Chain chain) None l other whole at = at
-  taken_other Event n (next.Chain chain) (Some page) l other whole at = at
-  taken_other Event n next.None page l other whole at = at
-  taken_other Event n (next.Failed f) page l other whole at = absurd whole
+  taken_other queue n a page l other whole at = grind (arith, common_steps)
 
   returned : (n : Fields) (q : Queue) (page : List ℕ) (log : Log) → IsCounted first n.cid n.dropped n.failed log
       → IsCounted first n.cid n.dropped n.failed (entries_returned q page log)
-  returned n Tx page log at = at
-  returned n Rx page log at = by (packet_held page)
-    where
-      by : (o : Option Packet) → IsCounted first n.cid n.dropped n.failed (with_packet (λ p. PutPacket p) o log)
-      by None = at
-      by (Some p) = record { cid_is = at.cid_is; dropped_is = at.dropped_is; unfailed = at.unfailed }
-  returned n Event page log at = by (event_held page)
-    where
-      by : (o : Option ℕ) → IsCounted first n.cid n.dropped n.failed (with_event (λ id. PutEvent id) o log)
-      by None = at
-      by (Some id) = record { cid_is = at.cid_is; dropped_is = at.dropped_is; unfailed = at.unfailed }
+  returned n q page log at = grind (arith, common_steps)
 
   rx_at : (n : Fields) (a : Next) (page : Option (List ℕ)) (l : EndLog) → IsTakenWhole Rx a page → At n l → At (after_rx a n) (log_taken Rx a page l)
   rx_at n (next.Chain chain) page l whole at = taken_other Rx n (next.Chain chain) page l (λ tx. cc) whole at
@@ -208,29 +191,7 @@ module _ (first : ℕ) where
         readable = is_taken.1;
       }
 
-  one_more : (n m : ℕ) → n ≡ min m (2 ^ 64 - 1) → counted n ≡ min (1 + m) (2 ^ 64 - 1)
-  one_more n m is = grind (arith, nat_tests, is)
-
-  none_more : (n m : ℕ) → n ≡ min m (2 ^ 64 - 1) → n ≡ min (0 + m) (2 ^ 64 - 1)
-  none_more n m is = grind (arith, nat_tests, is)
-
   -- A packet that is got, and dropped or not.
-  got : (n : Fields) (log : Log) (p : Packet) (b : Bool) → IsCounted first n.cid n.dropped n.failed log → is_dropped Device n.cid p.header ≡ b
-      → IsCounted first n.cid (cond b (counted n.dropped) n.dropped) n.failed (GotPacket p ∷ log)
-  got n log p b at is = record {
-    cid_is = at.cid_is;
-    dropped_is = by b (sym (ap (λ (c : ℕ). is_dropped Device c p.header) at.cid_is) ∙ is);
-    unfailed = at.unfailed;
-  }
-    where
-      m : ℕ
-      m = dropped_in first log
-
-      by : (b : Bool) → is_dropped Device (cid_of first log) p.header ≡ b
-          → cond b (counted n.dropped) n.dropped ≡ min (dropped_in first (GotPacket p ∷ log)) (2 ^ 64 - 1)
-      by true on = one_more n.dropped m at.dropped_is ∙ ap (λ (x : Bool). min (cond x 1 0 + m) (2 ^ 64 - 1)) (sym on)
-      by false off = none_more n.dropped m at.dropped_is ∙ ap (λ (x : Bool). min (cond x 1 0 + m) (2 ^ 64 - 1)) (sym off)
-
   -- Its header is read.
   module _ (chain : Chain) (n : Fields) (h : Header) where
     record Heard (l : EndLog) : Type 0 where
@@ -238,10 +199,7 @@ module _ (first : ℕ) where
       header : took.packet.header ≡ h
 
     judged : (b : Bool) → is_dropped Device n.cid h ≡ b → (l : EndLog) → Heard l → At (record n { dropped = cond b (counted n.dropped) n.dropped }) l
-    judged b is l heard =
-        let t = heard.took in
-        subst (λ (log : Log). IsCounted first n.cid (cond b (counted n.dropped) n.dropped) n.failed log) (sym t.entries)
-        (got n t.log t.packet b t.before (ap (λ (x : Header). is_dropped Device n.cid x) heard.header ∙ is))
+    judged b is l heard = grind (arith, common_steps)
 
     not_short : nat_lt (chain.readable - HEADER_LEN) h.len ≡ true → (l : EndLog) → Heard l → ⊥
     not_short short l heard =

@@ -9,7 +9,7 @@ use Rattle.laws_tables.{specs.{Ends.{is_among, is_new}, Steps.payload_on}, proof
 use Rattle.vs_ring_port.specs.{EndLog.EndLog, declared.{device_ring.Chain.Chain, failure.Failure.Failure}}
 use Rattle.std.proofs.Common.{◌≡◌, ℕ, ◌+◌, ◌≤◌, ◌==◌, ◌&&◌, ◌||◌, not, Bool, true, false, cond, if◌then◌else◌, List, [], ◌∷◌, length, Contains, Option, Some, None, Result, Ok, Err}
 use Rattle.std.proofs.{Common.{refl, sym, subst, ◌∙◌, arith, IfSome, IsOkAnd, inl, inr}, lemmas.Grind.common_steps}
-use Rattle.vs_contents.specs.CallTree.{Ask, Done, bind, for_each, while_up_to}
+use Rattle.vs_contents.specs.CallTree.{Done, bind, for_each, while_up_to}
 use Rattle.vs_conn.specs.{End.{CanSend, ConnectionEnd, owes_of, paid_of, state_may_send, wanting_credit, with_payload_sent}, Headers.{owed_header, payload_header}}
 use Rattle.vs_conn.{specs.declared.end.{Owed.Owed, State.State, Stop.TheVariants.ShutDown}, proofs.Frames.paid_asked}
 use Rattle.vs_credit.specs.Credit.{free_of}
@@ -50,18 +50,8 @@ can_send e n may fits = may_send_on e e.state n may fits
 request_new : (e : ConnectionEnd) → owes_of e ≡ Some owed.Request → is_new e ≡ true
 request_new e owes = grind (arith, common_steps, owes)
 
-new_owes : (e : ConnectionEnd) → is_new e ≡ true → owes_of e ≡ Some owed.Request
-new_owes e new = grind (arith, common_steps, new)
-
 owes_begun : (e : ConnectionEnd) (what : Owed) → owes_of e ≡ Some what → (what ≡ owed.Request → ⊥) → is_new e ≡ false
-owes_begun e what owes other = by (is_new e) refl
-  where
-    same : (a b : Owed) → ◌≡◌ {A = Option Owed} (Some a) (Some b) → a ≡ b
-    same a b is = cc
-
-    by : (b : Bool) → is_new e ≡ b → b ≡ false
-    by false is = refl
-    by true new = absurd (other (same what owed.Request (sym owes ∙ new_owes e new)))
+owes_begun e what owes other = grind (arith, common_steps)
 
 pub under_there : (s : DeviceState) (slot : ℕ) (e : DeviceEntry) → entry_under s.table slot ≡ Some e → Contains s.table.entries e
 under_there s slot e under = (found_by (λ (x : DeviceEntry). x.slot == slot) s.table.entries e under).0
@@ -322,11 +312,7 @@ module _ (carry : Carried) (lines : List Handshake) (first port : ℕ) where
 
     none_keeps : (q : Filling) (d : Situation) → q.state.chain ≡ None → q.over ≡ true → Now q.state d → Keeps Over
         (read_with_chain e q) d
-    none_keeps q d none over holds =
-        keeps_some asking Over q.state.chain (Done q) (λ chain. Ask (ReadStream e.value.stream (read_room (free_of e.value.end.credit) chain))
-        (λ answer. read_answered chain e answer.0 answer.1 q)) d
-        (λ gone. (holds, λ going. let both : true ≡ false = sym over ∙ going in absurd cc))
-        (λ chain some. let both : None ≡ Some chain = sym none ∙ some in absurd cc)
+    none_keeps q d none over holds = grind (arith, common_steps)
 
     read_by : (b : Bool) (c : Situation) → Ready r c → Keeps Over (cond b
         (Done (record r { state = with_connection e.slot (record e.value { end = wanting_credit e.value.end }) r.state }))

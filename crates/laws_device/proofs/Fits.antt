@@ -1,9 +1,10 @@
 -- A connection's pending bytes are unread ones of its end, whatever the end does.
-use Rattle.std.proofs.Common.{ℕ, ◌+◌, ◌-◌, ◌≤◌, Bool, true, false, cond, refl, arith}
+use Rattle.std.proofs.lemmas.Grind.{common_steps}
+use Rattle.std.proofs.Common.{ℕ, ◌+◌, ◌-◌, ◌≤◌, cond, refl, arith}
 use Rattle.vs_conn.specs.{End.{ConnectionEnd, end_after, paid_of, verdict_of, with_shut}, declared.end.Owed.Owed}
-use Rattle.vs_credit.specs.{Credit.{unread_of, with_forwarded, with_sent}, declared.Credit.Credit}
+use Rattle.vs_credit.specs.{Credit.{with_forwarded, with_sent}, declared.Credit.Credit}
 use Rattle.vs_header.specs.declared.Header.{Header}
-use Rattle.laws_tables.{specs.Drains.delivered, proofs.Unread.{Counts, Moves, forwards, hears, pays, shuts, still}}
+use Rattle.laws_tables.{specs.Drains.delivered, proofs.Unread.{Counts, Moves, forwards, hears, pays, still}}
 use Rattle.laws_device.specs.Honest.{HoldsBytes}
 
 pub counts : (c : Credit) (u : ℕ) → HoldsBytes c u → Counts c
@@ -11,13 +12,7 @@ counts c u fits = record { within = fits.within; alloc = fits.alloc; rx = fits.r
 
 -- No more bytes are pending than the end counts.
 moved : (more less : ℕ) (c d : Credit) (u v : ℕ) → HoldsBytes c u → Moves more less c d → v + less ≤ u + more → HoldsBytes d v
-moved more less c d u v fits m few = record {
-  unread = omega (arith, fits.unread, m.unread, few);
-  within = m.counts.within;
-  alloc = m.counts.alloc;
-  rx = m.counts.rx;
-  fwd = m.counts.fwd;
-}
+moved more less c d u v fits m few = grind (arith, common_steps)
 
 same : (c d : Credit) (u v : ℕ) → HoldsBytes c u → Moves 0 0 c d → v ≤ u → HoldsBytes d v
 same c d u v fits m few = moved 0 0 c d u v fits m (omega (arith, few))
@@ -34,11 +29,7 @@ fits_sent c n u fits = same c (with_sent c n) u u fits (still c (with_sent c n) 
 
 pub fits_shut : (e : ConnectionEnd) (bits u : ℕ) → HoldsBytes e.credit u
     → HoldsBytes (with_shut e bits).credit (cond (with_shut e bits).own.receive 0 u)
-fits_shut e bits u fits = by (with_shut e bits).own.receive (shuts e bits (counts e.credit u fits))
-  where
-    by : (b : Bool) → Moves 0 (cond b (unread_of e.credit) 0) e.credit (with_shut e bits).credit → HoldsBytes (with_shut e bits).credit (cond b 0 u)
-    by true m = record { unread = omega arith; within = m.counts.within; alloc = m.counts.alloc; rx = m.counts.rx; fwd = m.counts.fwd }
-    by false m = same e.credit _ u u fits m (omega arith)
+fits_shut e bits u fits = grind (arith, common_steps)
 
 pub fits_paid : (e : ConnectionEnd) (what : Owed) (u : ℕ) → HoldsBytes e.credit u → HoldsBytes (paid_of e what).credit u
 fits_paid e what u fits = same e.credit _ u u fits (pays e what (counts e.credit u fits)) (omega arith)

@@ -1,32 +1,25 @@
 -- The buffer space of a connection is raised: no packet passes, and no call is made.
+use Rattle.std.proofs.Common.{arith}
+use Rattle.std.proofs.lemmas.Grind.{common_steps}
 use Rattle.laws_device.{specs.{Carried.Streamed.ports_of, Honest.IsWith, Named.Streams.HasStreams, Streams.AreStreamedWith}, proofs.Carrying.{With, held_with, plain_with}}
 use Rattle.laws_device.proofs.{Carrying.{ring_and_host, ring_only, with_ring, with_streams}, Changing.grows, Carried.Changing.ends_streams, Named.Tables.entry_by_slot}
 use Rattle.laws_device.proofs.{Named.Tables.{has_changed, value_by_entry}, Steps.changed, Seats.Carried, Walk.Serving.by_slot}
-use Rattle.std.proofs.Common.{◌≡◌, ℕ, List, [], Option, Some, None, refl}
+use Rattle.std.proofs.Common.{◌≡◌, ℕ, List, [], Some, None, refl}
 use Rattle.vs_conn.specs.End.{grown}
 use Rattle.vs_flow.specs.Table.{entry_under}
 use Rattle.vs_outside.specs.Host.{HostContents}
 use Rattle.vs_ring_port.specs.Contents.{RingContents}
 use Rattle.vs_device_parts.specs.{Calls.Situation, Growing.{after_grow, entry_grow_answer, grow_of, grown_by}, State.{DeviceEntry, DeviceState}, Playing.situation}
-use Rattle.vs_device_parts.{specs.declared.answers.Grown.Grown, proofs.Growing.may_grow}
+use Rattle.vs_device_parts.{proofs.Growing.may_grow}
 use Rattle.vs_proxy_parts.specs.State.{Handshake}
 use Rattle.vs_device_parts.specs.declared.answers.Grown.TheVariants as rise
 
 module _ (slot alloc : ℕ) (s : DeviceState) where
   -- What it keeps: what each raised connection keeps, and what the device as it is keeps.
   module _ (P : DeviceState → Type 0) (same : P s) where
-    by_answer : (e : DeviceEntry) (a : Grown) → (a ≡ rise.Done → P (grown_by rise.Done alloc e s)) → P (grown_by a alloc e s)
-    by_answer e rise.Done raised = raised refl
-    by_answer e _ raised = same
-
     pub grow_by : ((e : DeviceEntry) → entry_under s.table slot ≡ Some e → entry_grow_answer alloc e ≡ rise.Done → P (grown_by rise.Done alloc e s))
         → P (after_grow slot alloc s)
-    grow_by raised = by (entry_under s.table slot) refl
-      where
-        by : (o : Option DeviceEntry) → entry_under s.table slot ≡ o
-            → P (elim o as (λ _. DeviceState) [ None ↦ s | Some e ↦ grown_by (entry_grow_answer alloc e) alloc e s ])
-        by None none = same
-        by (Some e) found = by_answer e (entry_grow_answer alloc e) (λ done. raised e found done)
+    grow_by raised = grind (arith, common_steps)
 
   pub grown_same : (grow_of slot alloc s ≡ rise.Done → ⊥) → after_grow slot alloc s ≡ s
   grown_same = grow_by (λ t. (grow_of slot alloc s ≡ rise.Done → ⊥) → t ≡ s) (λ no. refl)

@@ -32,7 +32,7 @@ use Rattle.laws_device.specs.Carried.Streamed.{heard_at, is_heard}
 use Rattle.laws_device.specs.Honest.{IsFitState}
 use Rattle.vs_flow.specs.Flow.{host_asks}
 use Rattle.vs_flow.specs.Table.{IsRising, IsTable, Table}
-use Rattle.vs_outside.specs.Host.{dial_answer, fails_now, is_listened}
+use Rattle.vs_outside.specs.Host.{dial_answer}
 use Rattle.vs_conn.specs.declared.end.Verdict.TheVariants as verdict
 use Rattle.vs_conn.specs.declared.end.Why.TheVariants as why
 use Rattle.vs_outside.specs.declared.host_net.Dialed.TheVariants as dialed
@@ -395,12 +395,7 @@ module _ (carry : Carried) (lines : List Handshake) (first port : ℕ) (s : Devi
 
       -- No listener is at the path.
       unheard : (g : HostContents) → dialed.Refused ≡ dial_answer (path_of s.base h.dst_port) g → is_heard (heard_at g (ports_of carry.stay port s)).serving (flow_to_host h) ≡ false
-      unheard g is = by (fails_now g) (is_listened (path_of s.base h.dst_port) g) is
-        where
-          by : (a b : Bool) → dialed.Refused ≡ cond a dialed.Failed (cond b (dialed.Stream (length g.streams + 1)) dialed.Refused) → b ≡ false
-          by a false is = refl
-          by true true is = absurd cc
-          by false true is = absurd cc
+      unheard g is = grind (arith, common_steps)
 
       abbrev path : List ℕ
       path = path_of s.base h.dst_port

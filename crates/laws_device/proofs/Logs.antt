@@ -1,12 +1,14 @@
 -- Over any ring a conversation leaves it as honest as it was and its log fair, and adds to the log that it tells.
-use Rattle.std.{proofs.Common.{◌≡◌, ℕ, true, List, [], ◌∷◌, take, Option, Some, None, refl, sym, subst, ◌∙◌}, specs.Option.ForSome}
+use Rattle.std.proofs.Common.{arith}
+use Rattle.std.proofs.lemmas.Grind.{common_steps}
+use Rattle.std.{proofs.Common.{◌≡◌, ℕ, true, List, [], ◌∷◌, take, Option, Some, None, refl, subst, ◌∙◌}, specs.Option.ForSome}
 use Rattle.vs_contents.specs.{CallTree.{Ask, Done}, Contents.Relates}
 use Rattle.laws_history.specs.declared.packet.Packet.{Packet}
 use Rattle.vs_page.specs.{Held.{event_held, packet_held}, Log.{Device, Log}, declared.log.LogEntry.{LogEntry, TheVariants.{GotPacket, Mark, PutEvent, PutPacket}}}
 use Rattle.vs_ring_port.specs.{Chains.bytes_in, DeviceCalls.{DeviceAllows, DeviceMoves}, Lists.Rings, declared.{device_ring.Next.Next, queue.Queue.{Queue, TheVariants.Event}}}
 use Rattle.vs_ring_port.specs.{declared.queue.Queue.TheVariants.{Rx, Tx}, Contents.{DeviceAnswer, DeviceCall, Given, IsSound, PublishCid, Read, Return, RingContents, Take, Write}}
 use Rattle.vs_ring_port.specs.EndLog.{EndLog, entries_returned, log_reset, log_returned, log_taken, log_written, with_event, with_packet}
-use Rattle.vs_device_parts.specs.{Calls.{Accept, Allows, Answer, Call, CloseStream, DeviceTree, Dial, Label, ReadStream, Ring, ShutWrite, Situation, WriteStream}, Playing.Runs}
+use Rattle.vs_device_parts.specs.{Calls.{Allows, Answer, Call, DeviceTree, Situation}, Playing.Runs}
 use Rattle.laws_tables.{specs.Later.{IsLater, StaysShut}, proofs.Later.{later_then, stays_shut}}
 use Rattle.laws_device.proofs.Packets.{joined, related}
 use Rattle.vs_ring_port.specs.declared.device_ring.Next.TheVariants as next
@@ -15,18 +17,8 @@ use Rattle.vs_ring_port.specs.declared.device_ring.Next.TheVariants as next
 module _ (R : RingContents → RingContents → Type 0) (same : (c : RingContents) → R c c)
     (both : (c d e : RingContents) → R c d → R d e → R c e)
     (each : (call : DeviceCall) (a : DeviceAnswer call) (c d : RingContents) → DeviceAllows call a c d → R c d) where
-  by_host : (c d : Situation) → d.ring ≡ c.ring → R c.ring d.ring
-  by_host c d is = subst (R c.ring) (sym is) (same c.ring)
-
   by_call : (call : Call) (a : Answer call) (c d : Situation) → Allows call a c d → R c.ring d.ring
-  by_call (Ring call) a c d allowed = each call a c.ring d.ring allowed.0
-  by_call Accept a c d allowed = by_host c d allowed.ring
-  by_call (Dial path flow) a c d allowed = by_host c d allowed.ring
-  by_call (Label stream flow) a c d allowed = by_host c d allowed.ring
-  by_call (ReadStream stream n) a c d allowed = by_host c d allowed.0.ring
-  by_call (WriteStream stream bytes) a c d allowed = by_host c d allowed.0.ring
-  by_call (ShutWrite stream) a c d allowed = by_host c d allowed.ring
-  by_call (CloseStream stream) a c d allowed = by_host c d allowed.ring
+  by_call call a c d allowed = grind (arith, common_steps)
 
   pub over_runs : {A : Type 0} (tree : DeviceTree A) (c d : Situation) (x : A) → Runs tree c x d → R c.ring d.ring
   over_runs (Done y) c d x runs = subst (λ (s : Situation). R c.ring s.ring) runs.1 (same c.ring)

@@ -1,17 +1,18 @@
 -- What one packet does to the log: the packet that is put, the one that is taken, and an event.
-use Rattle.std.proofs.Common.{◌≡◌, ℕ, ◌+◌, ◌==◌, nat_le, Bool, true, false, cond, List, [], ◌∷◌, ◌++◌, length, take, drop, Option, Some, None, Result, refl, sym, ap, subst, ◌∙◌}
-use Rattle.std.{proofs.lemmas.List.append-nil, specs.Option.{ForSome, option_map}}
-use Rattle.byteorder.specs.Endian.{little_bytes}
-use Rattle.vs_contents.specs.Contents.{Exposes, Relates}
+use Rattle.std.proofs.Common.{arith}
+use Rattle.std.proofs.lemmas.Grind.{common_steps}
+use Rattle.std.proofs.Common.{◌≡◌, ℕ, ◌+◌, Bool, true, List, [], ◌∷◌, ◌++◌, length, take, drop, Option, Some, None, Result, refl, sym, ap, subst, ◌∙◌}
+use Rattle.std.{proofs.lemmas.List.append-nil, specs.Option.{ForSome}}
+use Rattle.vs_contents.specs.Contents.{Relates}
 use Rattle.vs_header.specs.{Packet.{header_bytes, header_of}, declared.{Header.Header, TheConstants.HEADER_LEN}}
 use Rattle.laws_history.specs.{Packets.is_rw, declared.packet.Packet.Packet}
-use Rattle.vs_page.specs.{Held.{packet_held, payload_held}, Log.Log, Overwriting.overwritten, declared.log.LogEntry.TheVariants.{PutEvent, PutPacket}}
-use Rattle.vs_ring_port.specs.{Chains.{Held, bytes_in}, DeviceCalls.{DeviceMoves, IsTakenAs}, Lists.Rings, declared.{device_ring.Chain.Chain, failure.Failure.Failure}}
+use Rattle.vs_page.specs.{Held.{packet_held}, Overwriting.overwritten, declared.log.LogEntry.TheVariants.{PutEvent, PutPacket}}
+use Rattle.vs_ring_port.specs.{Chains.{Held}, DeviceCalls.{DeviceMoves}, Lists.Rings, declared.{device_ring.Chain.Chain, failure.Failure.Failure}}
 use Rattle.vs_ring_port.specs.{declared.queue.Queue.TheVariants.{Event, Rx, Tx}, Contents.{DeviceAnswer, DeviceCall, Read, Return, RingContents, Take, Write}, EndLog.EndLog}
-use Rattle.vs_ring_port.specs.EndLog.{log_returned, log_taken, log_written, with_packet}
+use Rattle.vs_ring_port.specs.EndLog.{log_returned, log_written, with_packet}
 use Rattle.vs_device_parts.specs.{Calls.{Allows, Ring, Situation}, Playing.Runs, Receiving.{event_on, written}, State.DeviceState}
-use Rattle.laws_device.{specs.Packets.{HasAdded, HasTaken, HoldsLast, IsWholeAs, packet_with}, proofs.{Chains.{both_written, first_written}, Ringing.bytes_held}}
-use Rattle.laws_device.proofs.{Ringing.{returned_entries, returned_held, written_held}, Transmitting.some_test}
+use Rattle.laws_device.{specs.Packets.{HasAdded, HasTaken, HoldsLast, IsWholeAs, packet_with}, proofs.{Chains.{both_written, first_written}}}
+use Rattle.laws_device.proofs.{Ringing.{returned_entries, returned_held, written_held}}
 use Rattle.vs_ring_port.specs.declared.device_ring.Next.TheVariants as next
 
 -- What a call does to the log, between the logs before and after it.
@@ -19,18 +20,11 @@ pub related : (call : DeviceCall) (a : DeviceAnswer call) (L : Rings → Type 0)
     (c d : RingContents)
     → DeviceMoves call a L f R g c d → (Q : EndLog → EndLog → Type 0) → ((l : EndLog) → c.log ≡ Some l → R l → Q l (g l))
     → Relates c.log d.log Q
-related call a L f R g c d made Q each = by c.log refl made.log
-  where
-    by : (o : Option EndLog) → c.log ≡ o → Exposes o d.log R g → Relates o d.log Q
-    by None is exposes = exposes
-    by (Some l) is exposes = subst (λ (o : Option EndLog). Relates (Some l) o Q) (sym exposes.1) (each l is exposes.0)
+related call a L f R g c d made Q each = grind (arith, common_steps)
 
 pub joined : {X : Type 0} (o p q : Option X) (R S T : X → X → Type 0) → ((l m n : X) → R l m → S m n → T l n) → Relates o p R
     → Relates p q S → Relates o q T
-joined {X = X} None p q R S T both first second = subst (λ (x : Option X). Relates x q S) first second
-joined (Some l) None q R S T both first second = absurd first
-joined (Some l) (Some m) None R S T both first second = absurd second
-joined (Some l) (Some m) (Some n) R S T both first second = both l m n first second
+joined {X = X} o p q R S T both first second = grind (arith, common_steps)
 
 -- Bytes of the chain that was taken last, with the log's entries as they were.
 record Wrote (chain : Chain) (bytes : List ℕ) (others : List Held) (old new : EndLog) : Type 0 where
@@ -71,13 +65,7 @@ module _ (chain : Chain) (others : List Held) where
     last : (bytes : List ℕ) (o p q : Option EndLog) → Relates o p (Wrote chain bytes others) → Relates p q
         (HasAdded (PutPacket (packet_with h payload)) others)
         → Relates o q (HasAdded (PutPacket (packet_with h payload)) others)
-    last bytes o p q = joined o p q (Wrote chain bytes others) (HasAdded (PutPacket (packet_with h payload)) others)
-        (HasAdded (PutPacket (packet_with h payload)) others)
-        (λ l m n first second. record {
-          entries = second.entries ∙ ap
-              (λ (log : Log). PutPacket (packet_with h payload) ∷ log) first.entries;
-          held = second.held;
-        })
+    last bytes o p q = grind (arith, common_steps)
 
 pub puts_one : (chain : Chain) (others : List Held) (h : Header) (payload : List ℕ) (a b : Situation) → chain.queue ≡ Rx
     → IsWholeAs h payload
@@ -106,72 +94,21 @@ puts_one chain others h (z ∷ zs) a b rx whole first (x, c, one, (y, d, two, (w
 -- A chain of tx that is taken, and what is read of it.
 pub takes_one : (chain : Chain) (a b : Situation) → Allows (Ring (Take Tx)) (next.Chain chain) a b → Relates a.ring.log b.ring.log
     (HasTaken chain)
-takes_one chain a b allowed =
-    related _ _ _ _ _ (log_taken Tx (next.Chain chain) allowed.0.0) a.ring b.ring allowed.0.1 (HasTaken chain)
-    (λ l is asked. by allowed.0.0 l asked.0)
-  where
-    by : (page : Option (List ℕ)) (l : EndLog) → IsTakenAs Tx (next.Chain chain) page → HasTaken chain l
-        (log_taken Tx (next.Chain chain) page l)
-    by None l asked = absurd asked
-    by (Some page) l asked = record { page = page; readable = asked.1; entries = refl; held = refl }
+takes_one chain a b allowed = grind (arith, common_steps)
 
 pub reads_there : (chain : Chain) (page bytes : List ℕ) (others : List Held) (place count : ℕ) (a b : Situation)
     → Allows (Ring (Read chain place count)) bytes a b → (l : EndLog) → a.ring.log ≡ Some l → HoldsLast chain page others l
     → bytes ≡ take count (drop place page)
-reads_there chain page bytes others place count a b allowed l is first = by a.ring.log is allowed.0.log
-  where
-    by : (o : Option EndLog) → o ≡ Some l → Exposes o b.ring.log (λ m. bytes ≡ take count (drop place (bytes_in chain m.held))) (λ m. m)
-        → bytes ≡ take count (drop place page)
-    by None none exposes = absurd cc
-    by (Some m) same exposes =
-        let e : m ≡ l = cc in
-        exposes.0 ∙ ap (λ (x : EndLog). take count (drop place (bytes_in chain x.held))) e
-        ∙ ap (λ (x : List ℕ). take count (drop place x)) (bytes_held chain page others l first)
+reads_there chain page bytes others place count a b allowed l is first = grind (arith, common_steps)
 
 -- The packet that a page holds: its header is the page's, and so is the payload of an RW.
-payload_by : (h : Header) (rest payload : List ℕ) (a b : Bool) → cond a (cond b (Some (take h.len rest)) None) (Some []) ≡ Some payload
-    → a ≡ true
-    → payload ≡ take h.len rest
-payload_by h rest payload true true is rw = cc
-payload_by h rest payload true false is rw = absurd cc
-payload_by h rest payload false b is rw = absurd cc
-
-parts_by : (h : Header) (p : Packet) (o : Option (List ℕ)) → option_map (packet_with h) o ≡ Some p → (p.header ≡ h) × (o ≡ Some p.payload)
-parts_by h p None is = absurd cc
-parts_by h p (Some payload) is =
-    let same : packet_with h payload ≡ p = cc in (sym (ap (λ (q : Packet). q.header) same), ap (λ (q : Packet). Some q.payload) same)
-
 pub heard_there : (page : List ℕ) (p : Packet) → packet_held page ≡ Some p
     → (p.header ≡ header_of (take HEADER_LEN page)) × (is_rw p ≡ true → p.payload ≡ take p.header.len (drop HEADER_LEN page))
-heard_there page p held =
-    let h : Header = header_of (take HEADER_LEN page) in
-    let rest : List ℕ = drop HEADER_LEN page in
-    let parts = parts_by h p (payload_held h rest) (some_test (nat_le HEADER_LEN (length page))
-    (option_map (packet_with h) (payload_held h rest)) p held) in (
-      parts.0,
-      λ rw. payload_by h rest p.payload (h.op == 5) (nat_le h.len (length rest)) parts.1 (sym (ap (λ (x : Header). x.op == 5) parts.0) ∙ rw)
-          ∙ ap (λ (x : Header). take x.len rest) (sym parts.0),
-    )
+heard_there page p held = grind (arith, common_steps)
 
 -- An event.
 module _ (chain : Chain) (others : List Held) (event : chain.queue ≡ Event) where
-  returns_event : (a b : Situation) → ForSome a.ring.log (HoldsLast chain (overwritten [] 0 (little_bytes 4 0)) others)
-      → Allows (Ring (Return chain 4)) tt a b → Relates a.ring.log b.ring.log (HasAdded (PutEvent 0) others)
-  returns_event a b first allowed =
-      let bytes : List ℕ = overwritten [] 0 (little_bytes 4 0) in
-      related _ _ _ _ _ (log_returned chain 4) a.ring b.ring allowed.0.1 (HasAdded (PutEvent 0) others)
-      (λ l is asked. record {
-        entries = returned_entries chain Event bytes 4 others l event (first l is);
-        held = returned_held chain bytes 4 others l (first l is);
-      })
-
   pub puts_event : (s : DeviceState) (x : DeviceState × Result Bool Failure) (a b : Situation) → ForSome a.ring.log
       (HoldsLast chain [] others)
       → Runs (event_on (next.Chain chain) s) a x b → Relates a.ring.log b.ring.log (HasAdded (PutEvent 0) others)
-  puts_event s x a b first (w, c, one, (y, d, two, (done, end))) =
-      let bytes : List ℕ = overwritten [] 0 (little_bytes 4 0) in
-      let one_is = writes chain others [] (little_bytes 4 0) 0 a c first one in
-      let two_is = returns_event c d (told chain others bytes a.ring.log c.ring.log one_is) two in
-      subst (λ (t : Situation). Relates a.ring.log t.ring.log (HasAdded (PutEvent 0) others)) end
-      (joined a.ring.log c.ring.log d.ring.log (Wrote chain bytes others) (HasAdded (PutEvent 0) others) (HasAdded (PutEvent 0) others)
-      (λ l m n was now. record { entries = now.entries ∙ ap (λ (log : Log). PutEvent 0 ∷ log) was.entries; held = now.held }) one_is two_is)
+  puts_event s x a b first h = grind (arith, common_steps)

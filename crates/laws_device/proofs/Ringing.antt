@@ -1,14 +1,15 @@
 -- What a call on a ring that tells its log keeps.
-use Rattle.std.proofs.Common.{◌≡◌, ℕ, ◌+◌, ◌≤◌, Bool, true, cond, List, ◌∷◌, ◌++◌, Contains, length, take, drop, Option, Some, None, refl, sym, ap, subst, ◌∙◌, arith}
-use Rattle.std.{proofs.{Common.length-append, lemmas.Bool.Decides.nat_tests}, specs.Option.ForSome}
+use Rattle.std.proofs.lemmas.Grind.{common_steps}
+use Rattle.std.proofs.Common.{◌≡◌, ℕ, ◌+◌, ◌≤◌, Bool, true, cond, List, ◌∷◌, Contains, length, take, Option, refl, sym, ap, subst, ◌∙◌, arith}
+use Rattle.std.{specs.Option.ForSome}
 use Rattle.vs_contents.specs.Contents.{Exposes}
 use Rattle.vs_outside.specs.Host.{HostContents}
 use Rattle.vs_device_parts.specs.Calls.{HostMoves, Situation}
 use Rattle.laws_device.specs.Honest.{is_held}
 use Rattle.vs_page.specs.{Fair.IsFairLog, Log.Device, Overwriting.overwritten}
-use Rattle.vs_ring_port.specs.{Chains.{Held, bytes_in, chains_of, same_chain, same_queue, with_bytes, without_held}, Contents.{RingContents, DeviceCall, DeviceAnswer}}
+use Rattle.vs_ring_port.specs.{Chains.{Held, bytes_in, chains_of, same_chain, with_bytes, without_held}, Contents.{RingContents, DeviceCall, DeviceAnswer}}
 use Rattle.vs_ring_port.specs.{DeviceCalls.DeviceMoves, EndLog.{EndLog, entries_returned, log_returned, log_written}, Lists.Rings, declared.device_ring.Chain.Chain}
-use Rattle.vs_ring_port.specs.declared.queue.Queue.{Queue, TheVariants.Rx}
+use Rattle.vs_ring_port.specs.declared.queue.Queue.{Queue}
 
 -- P holds of the log that a ring tells; it depends on whether the ring is honest, and on what the host exposes.
 abbrev pub Telling : Type 1
@@ -25,17 +26,7 @@ pub moves : (call : DeviceCall) (a : DeviceAnswer call) (L : Rings → Type 0) (
     (g : EndLog → EndLog) (c d : Situation)
     → DeviceMoves call a L f R g c.ring d.ring → d.host ≡ c.host → (P Q : Telling)
     → ((h : Bool) (o : Option HostContents) (l : EndLog) → R l → P h o l → (h ≡ true → IsFairLog Device (g l).entries) → Q h o (g l)) → Tells P c → Tells Q d
-moves call a L f R g c d made stays P Q then tells = λ l is. by c.ring.log refl made.log l is
-  where
-    by : (o : Option EndLog) → c.ring.log ≡ o → Exposes o d.ring.log R g → (l : EndLog) → d.ring.log ≡ Some l → Q d.ring.honest d.host l
-    by None log exposes l is = let e : None ≡ Some l = sym exposes ∙ is in absurd cc
-    by (Some before) log exposes l is =
-        let e : Some (g before) ≡ Some l = sym exposes.1 ∙ is in
-        let same : g before ≡ l = cc in
-        let fair : c.ring.honest ≡ true → IsFairLog Device (g before).entries = λ honest. made.fair (made.honest ∙ honest)
-        (g before) exposes.1 in
-        subst (λ (x : Option HostContents). Q d.ring.honest x l) (sym stays) (subst (λ (h : Bool). Q h c.host l) (sym made.honest)
-        (subst (Q c.ring.honest c.host) same (then c.ring.honest c.host before exposes.0 (tells before log) fair)))
+moves call a L f R g c d made stays P Q then tells = grind (arith, common_steps)
 
 -- A call on the host leaves the log.
 pub host_moves : (failed : Bool) (A : HostContents → Type 0) (f : HostContents → HostContents) (c d : Situation) → HostMoves failed A f c d → (P Q : Telling)
@@ -45,11 +36,7 @@ host_moves failed A f c d made P Q then tells =
 
 -- A chain is itself.
 pub same_self : (c : Chain) → same_chain c c ≡ true
-same_self c = let q = by c.queue in grind (arith, nat_tests, q)
-  where
-    by : (q : Queue) → same_queue q q ≡ true
-    by Rx = refl
-    by _ = refl
+same_self c = grind (arith, common_steps)
 
 -- The chain that was taken last, its bytes so far, and those held before.
 abbrev pub HoldsFirst : Chain → List ℕ → List Held → EndLog → Type 0
@@ -97,7 +84,4 @@ returned_entries chain queue bytes len others l is held =
     ∙ ap (λ (b : List ℕ). entries_returned queue (take len b) l.entries) (bytes_held chain bytes others l held)
 
 pub overwritten_long : (old new : List ℕ) (n : ℕ) → length (take n old) ≡ n → n + length new ≤ length (overwritten old n new)
-overwritten_long old new n first =
-    let all = length-append (take n old ++ new) (drop (n + length new) old) in
-    let front = length-append (take n old) new in
-    omega (arith, first, all, front)
+overwritten_long old new n first = grind (arith, common_steps)

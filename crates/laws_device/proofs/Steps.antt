@@ -1,6 +1,8 @@
 -- Steps of the device between its calls on the ring, and the chain that it takes for a packet.
+use Rattle.std.proofs.Common.{arith}
+use Rattle.std.proofs.lemmas.Grind.{common_steps}
 use Rattle.laws_tables.specs.Ends.{is_new}
-use Rattle.std.proofs.Common.{◌≡◌, ℕ, Bool, true, false, not, List, [], Contains, Option, Some, None, refl, sym, subst, ◌∙◌, IfSome, inl, inr}
+use Rattle.std.proofs.Common.{◌≡◌, ℕ, Bool, true, false, not, List, [], Contains, Option, Some, None, refl, sym, subst, IfSome, inl, inr}
 use Rattle.vs_contents.specs.CallTree.{bind}
 use Rattle.vs_ring_port.specs.{EndLog.{EndLog, log_taken}, Contents.Take, DeviceCalls.IsTakenAs, declared.{device_ring.{Chain.Chain, Next.Next}, queue.Queue.TheVariants.Rx}}
 use Rattle.vs_ring_port.specs.declared.{queue.Queue.Queue, failure.Failure.Failure}
@@ -27,19 +29,7 @@ module _ (carry : Carried) (lines : List Handshake) (first port : ℕ) where
 
   pub told_changed : (s t : DeviceState) (F G : Fact) (hon : Bool) (o n : Option HostContents) (l : EndLog) → t.chain ≡ s.chain → t.failed ≡ s.failed
       → (IsFitState s → Changes carry port s t) → (IsFitState s → F o l.entries → G n l.entries) → IsToldBy carry F first port s hon o l → IsToldBy carry G first port t hon n l
-  told_changed s t F G hon o n l chain failed step carries was = (
-    λ going. subst (λ (x : Option Chain). Among carry.others x l.held) (sym chain) (was.0 (sym failed ∙ going)),
-    λ honest. let p = was.1 honest in let k = step p.0.fits in (
-      record {
-        fits = k.fits;
-        none_overrun = k.overrun_is ∙ p.0.none_overrun;
-        matches = k.matches first l.entries p.0.matches;
-        fair = p.0.fair;
-        seated = k.goes l.entries p.0.seated;
-      },
-      carries p.0.fits p.1,
-    ),
-  )
+  told_changed s t F G hon o n l chain failed step carries was = grind (arith, common_steps)
 
   -- A step that puts and gets nothing, without a call on the host and with one.
   pub changed : (s t : DeviceState) → t.chain ≡ s.chain → t.failed ≡ s.failed → (IsFitState s → Changes carry port s t)
@@ -75,11 +65,7 @@ module _ (carry : Carried) (lines : List Handshake) (first port : ℕ) where
 
   pub it_failed : (queue : Queue) (f : Failure) (s : DeviceState) (c d : Situation) → s.failed ≡ None
       → Lets (Ring (Take queue)) (next.Failed f) c d → With carry lines first port s c → With carry lines first port (failing f s) d
-  it_failed queue f s c d going made holds = (
-    holds.0,
-    moves _ _ _ _ _ (log_taken queue (next.Failed f) made.0.0) c d made.0.1 made.1 (IsToldBy carry (Streamed s) first port s)
-        (IsToldBy carry (Streamed s) first port (failing f s)) (λ hon o l asked was fair. (λ still. was.0 going, was.1)) holds.1,
-  )
+  it_failed queue f s c d going made holds = grind (arith, common_steps)
 
   -- The seat alone changes.
   pub seat_changed : (s t : DeviceState) (F : Fact) → t.chain ≡ s.chain → t.failed ≡ s.failed → (IsFitState s → Changes carry port s t)

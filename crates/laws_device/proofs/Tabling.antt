@@ -1,4 +1,5 @@
 -- What steps on the table do to the device's numbers, and to its connections as ends.
+use Rattle.std.proofs.lemmas.Grind.{common_steps}
 use Rattle.std.proofs.Common.{◌≡◌, ℕ, ◌+◌, ◌-◌, ◌==◌, drop, Bool, true, false, cond, not, List, [], ◌∷◌, get_or, refl, arith, length, Contains, sym, ap, subst, ◌∙◌}
 use Rattle.std.{proofs.lemmas.List.Elements.{All-cons, All-drop, All-map, All-push, All-tail, All-filter}, specs.List.All}
 use Rattle.vs_header.specs.declared.Kind.TheVariants.{Stream}
@@ -21,11 +22,7 @@ begun_fits c bytes begun = record { bytes = bytes; new = λ new. absurd cc }
 
 revalued_fits : (slot : ℕ) (c : DeviceConnection) (e : DeviceEntry) → IsFitConnection c → c.end.kind ≡ Stream → IsFitEntry e
     → IsFitEntry (revalued slot c e)
-revalued_fits slot c e held kind fits = by (e.slot == slot)
-  where
-    by : (b : Bool) → IsFitEntry (cond b (record e { value = c }) e)
-    by true = record { ports = fits.ports; kind = kind; bytes = held.bytes; new = held.new }
-    by false = fits
+revalued_fits slot c e held kind fits = grind (arith, common_steps)
 
 -- A flow more is kept, or not.
 kept_fit : (keep : Bool) (f : Flow) (fs : List Flow) → All IsFitClean fs → (keep ≡ true → IsFitClean f) → All IsFitClean (kept_if keep f fs)

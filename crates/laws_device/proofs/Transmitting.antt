@@ -1,4 +1,5 @@
 -- What taking a packet of the guest keeps.
+use Rattle.std.proofs.lemmas.Grind.{common_steps}
 use Rattle.std.proofs.Common.{◌≡◌, ℕ, ◌-◌, ◌≤◌, ◌==◌, nat_le, nat_lt, Bool, true, false, cond, if◌then◌else◌, List, [], ◌∷◌, length, take, drop, Option, Some, None, refl, sym, ap}
 use Rattle.std.{proofs.{Common.{subst, ◌∙◌, arith, IfSome, length-drop}, lemmas.Bool.Decides.nat_tests}, specs.Option.option_map}
 use Rattle.vs_contents.specs.CallTree.{Done, Ask, bind}
@@ -41,10 +42,7 @@ header_is page p held =
 none_by : (h : Header) (rest : List ℕ) (a b c : Bool) → a ≡ true → c ≡ true
     → cond a (option_map (λ payload. let p : Packet = record { header = h; payload = payload } in p)
     (cond b (cond c (Some (take h.len rest)) None) (Some []))) None ≡ None → ⊥
-none_by h rest true true true av cv is = cc
-none_by h rest true false c av cv is = cc
-none_by h rest false b c av cv is = cc
-none_by h rest true true false av cv is = cc
+none_by h rest a b c av cv is = grind (arith, common_steps)
 
 held_there : (page : List ℕ) → HEADER_LEN ≤ length page → (header_of (take HEADER_LEN page)).len ≤ length page - HEADER_LEN
     → packet_held page ≡ None → ⊥

@@ -1,5 +1,6 @@
 -- What the owed event, a reset, a tick, a round of writing and an opening keep.
-use Rattle.std.proofs.Common.{◌≡◌, ℕ, ◌<◌, ◌≤◌, ◌^◌, ◌==◌, ◌&&◌, ◌||◌, Bool, true, false, cond, if◌then◌else◌, List, [], ◌∷◌, ◌++◌, length, take, Contains, Option, Some, None}
+use Rattle.std.proofs.lemmas.Grind.{common_steps}
+use Rattle.std.proofs.Common.{◌≡◌, ℕ, ◌<◌, ◌≤◌, ◌^◌, ◌==◌, Bool, true, false, cond, if◌then◌else◌, List, [], ◌∷◌, ◌++◌, length, take, Contains, Option, Some, None}
 use Rattle.std.proofs.{Common.{Result, Ok, Err, refl, sym, ap, subst, ◌∙◌, arith, length-append, length-take}, lemmas.{Bool.Decides.nat_tests, List.Elements.All-tail}}
 use Rattle.std.specs.{List.All, Option.ForSome}
 use Rattle.byteorder.specs.Endian.{little_bytes}
@@ -14,7 +15,7 @@ use Rattle.vs_ring_port.specs.{Contents.{RingContents, PublishCid, Return, Take,
 use Rattle.vs_ring_port.specs.{Chains.{Held, bytes_in}, declared.{device_ring.{Chain.Chain, Next.Next}, failure.Failure.Failure, queue.Queue.{Queue, TheVariants.{Event, Tx}}}}
 use Rattle.vs_ring_port.specs.DeviceCalls.{IsTakenAs, IsWholePacket}
 use Rattle.laws_tables.{specs.{Both.{Asks, MakesReset, PutsEvent, Seat}, Ends.{Ends, FlowEnd, is_new}, Matches.Matches, Steps.{IsNextFlow, asking}}, proofs.Keeps.asks}
-use Rattle.laws_tables.proofs.{Found.removed_flow, Keeps.{makes_reset, puts_event, start_matches}, Slots.{added_slot, found_by}}
+use Rattle.laws_tables.proofs.{Found.removed_flow, Keeps.{makes_reset, puts_event}, Slots.{added_slot, found_by}}
 use Rattle.vs_device_parts.specs.Connections.{after_shut, after_written, cut_off, is_timed_out, new_connection, stream_closed, with_client, with_connection, with_fault}
 use Rattle.vs_device_parts.specs.Streams.{Writing, closing, is_written_out, pump_of, pump_slot, shut_write, tick_of, tick_slot, to_write, write_answered, write_pending}
 use Rattle.vs_device_parts.specs.{Calls.{DeviceTree, Label, Ring, ShutWrite, WriteStream, Situation}, Turns.{after_reset, close_slot, open_of, reset_of}, State.new_device}
@@ -26,7 +27,7 @@ use Rattle.laws_device.proofs.{Filling.under_there, Steps.{it_failed, none_came,
 use Rattle.laws_device.proofs.{Tabling.{opening_fits, removed_fit}, Walk.Keeping.{keeps_if, keeps_some}, Carried.Changing.{called_host, ends_streams}}
 use Rattle.laws_device.proofs.Carried.{Changing.{event_streams, failed_host, mark_streams, shut_write_host, shuts_streams, writes_streams}, Closing.IsClosing}
 use Rattle.laws_device.proofs.{Carried.Closing.{closing_done as all_closed, closing_from, closing_now, closing_passes, closing_was}, Named.Tables.{some_after, some_from}}
-use Rattle.laws_device.specs.{Honest.{IsFitClean, IsFitFlow, IsFitState, IsFresh, IsLeft, IsWith, end_in, ends_of_state, port_after}, Carried.Streamed.{IsStreamed, ports_of}}
+use Rattle.laws_device.specs.{Honest.{IsFitClean, IsFitFlow, IsFitState, IsFresh, IsWith, end_in, ends_of_state, port_after}, Carried.Streamed.{IsStreamed, ports_of}}
 use Rattle.vs_header.specs.declared.Kind.TheVariants.{Stream}
 use Rattle.vs_proxy_parts.specs.State.{Handshake}
 use Rattle.laws_device.proofs.Carrying.{faulted}
@@ -37,20 +38,7 @@ use Rattle.vs_ring_port.specs.declared.device_ring.Next.TheVariants as next
 -- A connection that waits since a moment has begun, and so has one that has something to write.
 pub late_old : (e : DeviceEntry) (s : DeviceState) → IsFitState s → Contains s.table.entries e → is_timed_out s.now e.value ≡ true
     → is_new e.value.end ≡ false
-late_old e s fits there late = by (is_new e.value.end) refl
-  where
-    by : (b : Bool) → is_new e.value.end ≡ b → b ≡ false
-    by false is = refl
-    by true is =
-        let n = (entry_fits s fits e there).new is in
-        let no : is_timed_out s.now (record e.value { asked_at = None; shut_at = None }) ≡ true =
-        subst (λ (o : Option ℕ). is_timed_out s.now (record e.value { asked_at = None; shut_at = o }) ≡ true) n.shut_at
-        (subst (λ (o : Option ℕ). is_timed_out s.now (record e.value { asked_at = o }) ≡ true) n.asked_at late) in
-        absurd (none_late _ no)
-      where
-        none_late : (a : Bool) → ((a && false) || false) ≡ true → ⊥
-        none_late true is = cc
-        none_late false is = cc
+late_old e s fits there late = grind (arith, common_steps)
 
 pub writes_old : (e : DeviceEntry) (s : DeviceState) → IsFitState s → Contains s.table.entries e → (length (to_write e.value) == 0) ≡ false
     → is_new e.value.end ≡ false
@@ -68,39 +56,11 @@ writes_old e s fits there some = by (is_new e.value.end) refl
         absurd (grind (arith, nat_tests, some, nothing))
 
 closed_fits : (e : DeviceEntry) (s : DeviceState) → IsFitState s → Contains s.table.entries e → IsFitConnection (stream_closed e.value)
-closed_fits e s fits there =
-    let entry = entry_fits s fits e there in
-    record {
-      bytes = record {
-        unread = omega arith;
-        within = entry.bytes.within;
-        alloc = entry.bytes.alloc;
-        rx = entry.bytes.rx;
-        fwd = entry.bytes.fwd;
-      };
-      new = λ new. let n = entry.new new in record {
-        by_client = n.by_client;
-        ok_line = refl;
-        pending = refl;
-        asked_at = n.asked_at;
-        shut_at = n.shut_at;
-      };
-    }
+closed_fits e s fits there = grind (arith, common_steps)
 
 shut_fits : (e : DeviceEntry) (s : DeviceState) → IsFitState s → Contains s.table.entries e → IsFitConnection
     (record e.value { write_shut = true })
-shut_fits e s fits there =
-    let entry = entry_fits s fits e there in
-    record {
-      bytes = entry.bytes;
-      new = λ new. let n = entry.new new in record {
-        by_client = n.by_client;
-        ok_line = n.ok_line;
-        pending = n.pending;
-        asked_at = n.asked_at;
-        shut_at = n.shut_at;
-      };
-    }
+shut_fits e s fits there = grind (arith, common_steps)
 
 -- All flows that are kept are with the host.
 of_host_fit : (fs : List Flow) → All IsFitClean fs → of_host fs ≡ fs
@@ -115,13 +75,7 @@ of_host_fit (f ∷ fs) each = by (is_host f) host (of_host_fit fs (All-tail IsFi
     by false is rest = absurd cc
 
 empty_table : (t : Table DeviceConnection) → IsTable t → IsTable (emptied t)
-empty_table t sound = record {
-  within = omega arith;
-  rising = λ i j d less within. absurd (omega (arith, within));
-  distinct = λ i j d less within. absurd (omega (arith, within));
-  were_given = λ i d within. absurd (omega (arith, within));
-  slots_left = sound.slots_left;
-}
+empty_table t sound = grind (arith, common_steps)
 
 -- A flow that the device may ask for, and the port that is given next then.
 pub record Gives (carry : Carried) (port : ℕ) (s : DeviceState) (flow : Flow) (onward : ℕ) : Type 0 where
@@ -481,27 +435,4 @@ opens_plain first port flow stream s next ports c holds =
 
 -- A new device.
 pub new_with : (port cid : ℕ) (base : List ℕ) (c : RingContents) → cid < 2 ^ 64 → IsFresh c → IsWith cid port (new_device cid base) c
-new_with port cid base c less fresh = (
-  tt,
-  λ l is. let was = fresh l is in (
-    λ still. was.1,
-    λ honest. subst (λ (log : Log). IsLeft cid port cid 0 (new_device cid base).table [] [] log) (sym was.0) (record {
-      fits = record {
-        cid_fits = less;
-        sound = record {
-          within = omega arith;
-          rising = λ i j d less within. absurd (omega (arith, within));
-          distinct = λ i j d less within. absurd (omega (arith, within));
-          were_given = λ i d within. absurd (omega (arith, within));
-          slots_left = omega arith;
-        };
-        entries = λ i d within. absurd (omega (arith, within));
-        owed = λ i d within. absurd (omega (arith, within));
-        clean_fit = λ i d within. absurd (omega (arith, within));
-      };
-      none_overrun = refl;
-      matches = start_matches Device cid port;
-      fair = λ f. tt;
-    }),
-  ),
-)
+new_with port cid base c less fresh = grind (arith, common_steps)

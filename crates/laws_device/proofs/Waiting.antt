@@ -1,4 +1,5 @@
 -- The device's table by the log and by the host's streams.
+use Rattle.std.proofs.lemmas.Grind.{common_steps}
 use Rattle.laws_device.specs.Carried.Streamed.{Ports, ports_of, IsJoined, IsStreamed, Seen, client_waits, connection_in, connection_of, count_in, look, seen}
 use Rattle.laws_device.{specs.{Streams.{AreStreamedWith, IsTabledWith, has_open_stream, is_open_in, is_open_on}, Honest.IsWith}, proofs.Carried.Closing.{is_under, named}}
 use Rattle.laws_device.proofs.{Carried.{HostCalls.some_seen, Hosts.{label_here, label_there, there}}, Shown.{left_open, same_flows}}
@@ -6,13 +7,13 @@ use Rattle.std.proofs.Common.{◌≡◌, ℕ, zero, suc, ◌+◌, ◌-◌, ◌<�
 use Rattle.std.{proofs.{Common.{Some, None, refl, sym, ap, subst, ◌∙◌, arith}, lemmas.{Bool.{Decides.nat_tests, and_parts}, List.Elements.All-contains}}}
 use Rattle.std.proofs.lemmas.{List.Folds.{Any-from_list_any, list_any_at}, Option.{get_or_from_slice_get, slice_get-get_or, slice_get_within}}
 use Rattle.std.specs.Option.{option_map, option_map_or}
-use Rattle.vs_conn.specs.{End.ConnectionEnd, declared.end.State.{State, TheVariants.Asked}}
+use Rattle.vs_conn.specs.{End.ConnectionEnd, declared.end.State.{TheVariants.Asked}}
 use Rattle.vs_device_parts.specs.{Calls.Situation, State.{DeviceConnection, DeviceEntry, DeviceState}}
 use Rattle.vs_flow.{specs.{Flow.same_flow, Table.Table, declared.flow.Flow.Flow, Connection.Connection}, proofs.Entries.same_flow_true}
 use Rattle.vs_outside.specs.{Host.{HostContents, Stream, stream_at, waits}, HostProgram.closes, declared.host_net.StreamState.StreamState}
 use Rattle.vs_page.{specs.Log.Log, proofs.Flows.same_self}
 use Rattle.vs_proxy_parts.specs.State.{Handshake}
-use Rattle.laws_tables.{specs.Ends.{FlowEnd, flows_of, is_among, is_new, is_new_in, new_flows}, proofs.Slots.found_by}
+use Rattle.laws_tables.{specs.Ends.{FlowEnd, flows_of, is_among, is_new, new_flows}, proofs.Slots.found_by}
 use Rattle.vs_outside.specs.declared.host_net.StreamState.TheVariants as state
 
 -- The flows of a table, and of the connections whose REQUEST isn't put.
@@ -60,11 +61,7 @@ new_on f (e ∷ es) is = by (is_new e.value.end) refl is (λ more. later (new_on
     by false old is rest = rest is
 
 new_asks : (e : ConnectionEnd) → is_new e ≡ true → e.state ≡ Asked
-new_asks e is = by e.state e.request_put is
-  where
-    by : (s : State) (b : Bool) → is_new_in s b ≡ true → s ≡ Asked
-    by Asked b is = refl
-    by _ b is = absurd cc
+new_asks e is = grind (arith, common_steps)
 
 opens_by : (s : StreamState) → waits s ≡ false → closes s ≡ false → is_open_in s ≡ true
 opens_by state.Waiting a b = absurd cc
@@ -79,10 +76,7 @@ still_by state.Closed is = absurd cc
 -- Where a flow is in the table, as its log leaves it open or it is new, and each flow of these has what those of the table have.
 pub tied_by : (among opened new waits : Bool) → among ≡ (opened || new) → (new ≡ true → waits ≡ true) → (waits ≡ true → among ≡ true)
     → among ≡ (opened || waits)
-tied_by among true new waits is up down = is
-tied_by among false true waits is up down = is ∙ sym (up refl)
-tied_by among false false true is up down = down refl
-tied_by among false false false is up down = is
+tied_by among opened new waits is up down = grind (arith, common_steps)
 
 module _ (c : HostContents) (log : Log) (port : Ports) (t : Table DeviceConnection) (hands : List Handshake)
     (x : IsStreamed c log port t hands) where

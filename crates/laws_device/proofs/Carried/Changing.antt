@@ -1,9 +1,9 @@
 -- What the host's streams took and gave, through the small changes of the device.
 use Rattle.vs_flow.specs.{CleanPairs.{kept, kept_if}, Table.{IsTable, Table, entry_of, with_value, without}, Flow.{host_asks, same_flow}, declared.flow.Flow.Flow, Connection.Connection}
 use Rattle.vs_flow.proofs.Entries.{same_flow_true}
-use Rattle.std.proofs.Common.{◌≡◌, ◌≢◌, ℕ, ◌+◌, ◌-◌, ◌≤◌, ◌==◌, ◌&&◌, ◌||◌, nat_le, Bool, true, false, cond, List, [], ◌∷◌, ◌++◌, length, take, drop, Contains, Option, Some, None, refl}
-use Rattle.std.proofs.{Common.{sym, ap, subst, ◌∙◌, arith, slice_get, get_or, ◌⊎◌, inl, inr}, lemmas.{Bool.Decides.nat_tests, Grind.common_steps, List.append-nil}}
-use Rattle.std.{proofs.Math.Seq.{drop-nil, take-nil}, specs.{List.{All, filter}, Option.{option_map, option_map_or}}}
+use Rattle.std.proofs.Common.{◌≡◌, ◌≢◌, ℕ, ◌+◌, ◌-◌, ◌≤◌, ◌&&◌, ◌||◌, Bool, true, false, cond, List, [], ◌∷◌, ◌++◌, length, take, drop, Contains, Option, Some, None, refl}
+use Rattle.std.proofs.{Common.{sym, ap, subst, ◌∙◌, arith, get_or, ◌⊎◌, inl, inr}, lemmas.{Bool.Decides.nat_tests, Grind.common_steps, List.append-nil}}
+use Rattle.std.{proofs.Math.Seq.{drop-nil, take-nil}, specs.{List.{All, filter}, Option.{option_map_or}}}
 use Rattle.vs_conn.{specs.{End.{ConnectionEnd, end_after, is_of, is_reset, verdict_of, with_shut, with_payload_sent}, declared.end.Verdict.Verdict}, proofs.Frames.got_asked}
 use Rattle.vs_device_parts.specs.{Connections.{after_shut, after_written, cut_off}, State.{DeviceConnection, DeviceEntry}, Transmitting.heard, Streams.to_write}
 use Rattle.laws_device.proofs.Carried.Gives.{drop_both, first_of, forwards_asked, forwards_gives, accepted_other, accepts_asked, accepts_response, answered_host, comes_behind}
@@ -11,20 +11,20 @@ use Rattle.laws_device.proofs.Carried.Gives.{delivered_other, delivers_gives, gi
 use Rattle.laws_device.proofs.Carried.{Gives.{unanswered_got, forwards_old, shuts_old, stays_old}, HostCalls.{read_host, write_host, closed_left, same_ends, same_host}}
 use Rattle.laws_device.proofs.Carried.{Streamed.{join_of, kept_streamed, left_streamed, StaysStill, passed_streamed, same_connection_of, same_streamed}, Opens.none_apart}
 use Rattle.laws_device.proofs.Carried.{Hosts.{counts_kept, counts_still, look_kept, unseen}, Counted.{Lacks, comes_on, counted_asks, counted_got, counted_put, fewer_served, kept_less, lost_serves, none_lacks}}
-use Rattle.laws_device.{proofs.Carried.Counted.{number_elsewhere, number_put_elsewhere, put_still, request_put}, specs.Carried.Streamed.{client_waits, AreCounted, CountMatches}}
+use Rattle.laws_device.{proofs.Carried.Counted.{number_put_elsewhere, put_still, request_put}, specs.Carried.Streamed.{client_waits, AreCounted, CountMatches}}
 use Rattle.vs_limits.specs.declared.TheConstants.{DEVICE_CONNECTIONS}
-use Rattle.laws_device.specs.Carried.Streamed.{heard_at, serves, IsJoined, IsStreamed, Ports, connection_of, count_in, gives, line_for, look, seen, Seen}
+use Rattle.laws_device.specs.Carried.Streamed.{heard_at, serves, IsJoined, IsStreamed, Ports, connection_of, count_in, gives, line_for, look, Seen}
 use Rattle.laws_history.specs.{Packets.{has, is_clean_rst, is_request, is_response, is_rw}, History.{Answerer, Asker, Got, History, IsFair, Side, gots, puts, MayPut, peer}}
 use Rattle.laws_history.specs.{declared.packet.Packet.Packet, Again.AllowsNow}
 use Rattle.laws_tables.{specs.{Steps.payload_on, Drains.{Drains, only_on}, Ends.{is_among, is_new}}, proofs.{Entries.kept_among, Fair.{fair_now, own_got_fair}}}
 use Rattle.laws_tables.proofs.{Adding.{got_over_put, number_got, number_put, put_adds, put_nothing, put_over_got}, Logs.none_on_any, Goes.{comes_out, Goes, drops, stays_still}}
 use Rattle.laws_tables.proofs.Changes.{without_changed}
-use Rattle.vs_outside.specs.Host.{after_close, after_failed, after_read, after_shut_write, after_write, called, dial_answer, fails_now, is_listened, next_bytes, HostContents}
+use Rattle.vs_outside.specs.Host.{after_close, after_failed, after_read, after_shut_write, after_write, called, dial_answer, fails_now, next_bytes, HostContents}
 use Rattle.vs_outside.{specs.{Host.{with_shut_write_call, Stream}, HostBytes.is_labelled}, proofs.Frames.stream_at-after_failed}
-use Rattle.vs_page.specs.{Held.{IsWhole, packet_held, packet_with, payload_held}, Log.{Device, Log, flow_got, flow_put, history_of, side_of, side_by}}
+use Rattle.vs_page.specs.{Held.{IsWhole, packet_held}, Log.{Device, Log, flow_got, flow_put, history_of, side_of, side_by}}
 use Rattle.vs_page.specs.{declared.log.LogEntry.TheVariants.{GotPacket, Mark, PutEvent, PutPacket}, Fair.{IsFairLog, IsFairOn, asked_by, current, instance_from, number_of}}
-use Rattle.vs_page.{specs.Fair.{payload_got, payload_of, payload_put}, proofs.{Flows.same_self, Present.present_got}}
-use Rattle.vs_header.specs.{Packet.header_of, declared.{Header.Header, Kind.Kind}}
+use Rattle.vs_page.{specs.Fair.{payload_got, payload_of, payload_put}, proofs.{Present.present_got}}
+use Rattle.vs_header.specs.{declared.{Kind.Kind}}
 use Rattle.vs_limits.specs.declared.TheConstants.{CLEAN_PAIRS}
 use Rattle.vs_proxy_parts.specs.State.{Handshake}
 use Rattle.vs_uds.specs.{ConnectLine.{connect_port, connect_step}, Reading.{is_decided, port_or_bad}, declared.connect.TheConstants.CONNECT_MAX, OkLine.ok_text}
@@ -47,27 +47,8 @@ pub reset_empty : (kind : Kind) (p : Packet) → (is_reset p.header && is_of kin
 reset_empty kind p is = grind (arith, nat_tests, common_steps, is)
 
 -- The payload of a page that holds an RW.
-payload_by : (h : Header) (p : Packet) (o : Option (List ℕ)) → option_map (λ payload. record { header = h; payload = payload }) o ≡ Some p
-    → (p.header ≡ h) × (o ≡ Some p.payload)
-payload_by h p None is = absurd cc
-payload_by h p (Some payload) is =
-    let same : ◌≡◌ {A = Packet} record { header = h; payload = payload } p = cc in
-    (sym (ap (λ (q : Packet). q.header) same), ap (λ (q : Packet). Some q.payload) same)
-
-some_of : {A : Type 0} (b : Bool) (o : Option A) (y : A) → cond b o None ≡ Some y → o ≡ Some y
-some_of true o y is = is
-some_of false o y is = absurd cc
-
 pub payload_in : (page : List ℕ) (p : Packet) → packet_held page ≡ Some p → is_rw p ≡ true → take p.header.len (drop 44 page) ≡ p.payload
-payload_in page p held carries =
-    let h = header_of (take 44 page) in
-    let parts = payload_by h p (payload_held h (drop 44 page)) (some_of (nat_le 44 (length page)) (packet_with h (drop 44 page)) p held) in
-    let rw_here : (h.op == 5) ≡ true = ap (λ (g : Header). g.op == 5) (sym parts.0) ∙ carries in
-    let given : cond (nat_le h.len (length (drop 44 page))) (Some (take h.len (drop 44 page))) None ≡ Some p.payload =
-    ap (λ (b : Bool). cond b (cond (nat_le h.len (length (drop 44 page))) (Some (take h.len (drop 44 page))) None) (Some [])) (sym rw_here) ∙ parts.1 in
-    let taken : Some (take h.len (drop 44 page)) ≡ Some p.payload =
-    some_of (nat_le h.len (length (drop 44 page))) (Some (take h.len (drop 44 page))) p.payload given in
-    ap (λ (g : Header). take g.len (drop 44 page)) parts.0 ∙ cc
+payload_in page p held carries = grind (arith, common_steps)
 
 no_request : (p : Packet) → is_response p ≡ true → is_request p ≡ false
 no_request p is = grind (arith, nat_tests, common_steps, is)
@@ -93,13 +74,7 @@ failed_host c log port t hands x = same_host c (after_failed c) log port t hands
     same_labels f j = ap (λ (o : Option Stream). option_map_or (λ s. option_map_or (same_flow f) s.label false) o false) (stream_at-after_failed j c)
 
 pub dialed_id : (path : List ℕ) (stream : ℕ) (c : HostContents) → dial_answer path c ≡ dialed.Stream stream → stream ≡ length c.streams + 1
-dialed_id path stream c is = by (fails_now c) (is_listened path c) is
-  where
-    by : (a b : Bool) → cond a dialed.Failed (cond b (dialed.Stream (length c.streams + 1)) dialed.Refused) ≡ dialed.Stream stream
-        → stream ≡ length c.streams + 1
-    by true b is = absurd cc
-    by false false is = absurd cc
-    by false true is = cc
+dialed_id path stream c is = grind (arith, common_steps)
 
 -- A packet without payload was put that is no REQUEST: one that isn't marked, or one of a connection.
 abbrev pub MayFollow : Table DeviceConnection → Packet → Type 0
@@ -144,14 +119,7 @@ present_old log e old =
 
 -- A packet that isn't a REQUEST where it is of a connection's flow leaves the connection's number.
 number_kept : (p : Packet) (log : Log) (f : Flow) → (f ≡ flow_got Device p → is_request p ≡ false) → number_of Device f log ≡ number_of Device f (GotPacket p ∷ log)
-number_kept p log f plain = by (same_flow f (flow_got Device p)) refl
-  where
-    by : (b : Bool) → same_flow f (flow_got Device p) ≡ b → number_of Device f log ≡ number_of Device f (GotPacket p ∷ log)
-    by true same = sym (number_got Device p log f (plain (same_flow_true f (flow_got Device p) same)))
-    by false other = number_elsewhere p log f (λ same. never (sym (same_self f) ∙ ap (same_flow f) same ∙ other))
-      where
-        never : true ≡ false → ⊥
-        never is = cc
+number_kept p log f plain = grind (arith, common_steps)
 
 module _ (c : HostContents) (log : Log) (port : Ports) (t : Table DeviceConnection) (hands : List Handshake) (x : IsStreamed c log port t hands) (sound : IsTable t) where
   -- A connection decides something.
@@ -489,12 +457,4 @@ no_labels c port t empty slots unlabelled none waits = record {
 
 -- A host without streams.
 pub no_streams : (c : HostContents) (port : Ports) (t : Table DeviceConnection) → t.entries ≡ [] → (port.serving.given ≡ 0) × (port.serving.room ≡ DEVICE_CONNECTIONS) → c.streams ≡ [] → c.labelled ≡ [] → IsStreamed c [] port t []
-no_streams c port t empty slots fresh unlabelled =
-    no_labels c port t empty slots unlabelled (λ id s k there on. none id s there) (λ id s there waits. absurd (none id s there))
-  where
-    by : (b : Bool) (id : ℕ) (s : Seen) → option_map (seen c id) (cond b None (slice_get {X = Stream} [] (id - 1))) ≡ Some s → ⊥
-    by true id s there = cc
-    by false id s there = cc
-
-    none : (id : ℕ) (s : Seen) → look c id ≡ Some s → ⊥
-    none id s there = by (id == 0) id s (ap (λ (xs : List Stream). option_map (seen c id) (cond (id == 0) None (slice_get xs (id - 1)))) (sym fresh) ∙ there)
+no_streams c port t empty slots fresh unlabelled = grind (arith, common_steps)

@@ -1,4 +1,5 @@
 -- A reset: the streams of all connections are closed, one after another.
+use Rattle.std.proofs.lemmas.Grind.{common_steps}
 use Rattle.std.proofs.Common.{◌≡◌, ◌≢◌, ℕ, zero, suc, ◌==◌, Bool, true, false, cond, List, [], ◌∷◌, map, get_or, Contains, Option, Some, None, refl, sym, ap, ◌∙◌, arith}
 use Rattle.std.{proofs.lemmas.{Bool.Decides.nat_tests, List.Elements.All-contains}, specs.List.{All, find}}
 use Rattle.vs_device_parts.{specs.{Connections.stream_closed, State.{DeviceConnection, DeviceEntry}}, proofs.Under.has_slot}
@@ -25,18 +26,10 @@ pub record IsUnder (t : Table DeviceConnection) (slot id : ℕ) : Type 0 where
   pub stream : joined_stream entry.value ≡ Some id
 
 pub is_under : (t : Table DeviceConnection) (slot id : ℕ) → stream_under t slot ≡ Some id → IsUnder t slot id
-is_under t slot id at = by (entry_under t slot) refl at
-  where
-    by : (o : Option DeviceEntry) → entry_under t slot ≡ o → joined_in (value_in o) ≡ Some id → IsUnder t slot id
-    by None under none = absurd cc
-    by (Some e) under stream = record { entry = e; under = under; stream = stream }
+is_under t slot id at = grind (arith, common_steps)
 
 pub named : (e : DeviceEntry) (id : ℕ) → joined_stream e.value ≡ Some id → (e.value.closed ≡ false) × (e.value.stream ≡ id)
-named e id is = by e.value.closed refl is
-  where
-    by : (b : Bool) → e.value.closed ≡ b → cond b None (Some e.value.stream) ≡ Some id → (e.value.closed ≡ false) × (e.value.stream ≡ id)
-    by true shut is = absurd cc
-    by false still is = (still, cc)
+named e id is = grind (arith, common_steps)
 
 slot_listed : (slot : ℕ) (es : List DeviceEntry) (e : DeviceEntry) → find (λ e. e.slot == slot) es ≡ Some e
     → Contains (map (λ e. e.slot) es) slot

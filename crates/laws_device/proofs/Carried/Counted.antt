@@ -31,29 +31,14 @@ AreIn b n k served w h = CountMatches b n (asked_by (side_by Device b) (puts w) 
 
 got_in : (b s : Bool) (p : Packet) (n : ℕ) (k served serves : Bool) (w h : History) → (serves ≡ true → served ≡ true)
     → (s ≡ true → b ≡ false → is_request p ≡ true → serves ≡ false) → AreIn b n k served w h → AreIn b n k serves (cond s (Got p ∷ w) w) (cond s (and_then (Got p) h) h)
-got_in b false p n k served serves w h few lacks x =
-    kept_less b n (asked_by (side_by Device b) (puts w) (gots w)) k k (has is_clean_rst (puts h)) served serves (λ is. is) few x
-got_in true true p n k served serves w h few lacks x = x
-got_in false true p n k served serves w h few lacks x = by (is_request p) (lacks refl refl)
-  where
-    by : (r : Bool) → (r ≡ true → serves ≡ false) → CountMatches false n (cond r (count is_request (gots w) + 1) (count is_request (gots w))) k
-        (has is_clean_rst (puts (cond r (Got p ∷ []) (Got p ∷ h))) || serves)
-    by true none = (omega (arith, x.0), λ marked. let both : false ≡ true = sym (none refl) ∙ marked in absurd cc)
-    by false none = kept_less false n (count is_request (gots w)) k k (has is_clean_rst (puts h)) served serves (λ is. is) few x
+got_in b s p n k served serves w h few lacks x = grind (arith, common_steps)
 
 -- A REQUEST that comes lacks what it needs, or none comes.
 abbrev pub Lacks : Serving → Packet → Log → Type 0
 Lacks v p log = host_asks (flow_got Device p) ≡ false → is_request p ≡ true → serves v (GotPacket p ∷ log) (flow_got Device p) ≡ false
 
 still_served : (v : Serving) (p : Packet) (log : Log) (f : Flow) → serves v (GotPacket p ∷ log) f ≡ true → serves v log f ≡ true
-still_served v p log f is = by (is_heard v f) (nat_lt v.given v.room) (not v.lost) (not (is_request p) || is_of kind.Stream p.header) is
-  where
-    by : (a b c d : Bool) → (a && (b && (c && (d && asks_streams log)))) ≡ true → (a && (b && (c && asks_streams log))) ≡ true
-    by true true true true is = is
-    by false b c d is = absurd cc
-    by true false c d is = absurd cc
-    by true true false d is = absurd cc
-    by true true true false is = absurd cc
+still_served v p log f is = grind (arith, common_steps)
 
 -- A packet comes: no more are marked after it, and a REQUEST is one more.
 pub counted_on : (p : Packet) (log : Log) (n : Flow → ℕ) (port : Ports) (f : Flow)
@@ -71,13 +56,7 @@ counted_got p log n port lacks f = counted_on p log n port f
 
 -- One more slot was given.
 pub slot_served : (v : Serving) (log : Log) (f : Flow) → serves (record v { given = v.given + 1 }) log f ≡ true → serves v log f ≡ true
-slot_served v log f is = by (is_heard v f) (nat_lt (v.given + 1) v.room) (nat_lt v.given v.room) (λ less. grind (arith, nat_tests, less)) is
-  where
-    by : (a b c : Bool) → (b ≡ true → c ≡ true) → (a && (b && (not v.lost && asks_streams log))) ≡ true → (a && (c && (not v.lost && asks_streams log))) ≡ true
-    by true true true less is = is
-    by true true false less is = absurd (let no = less refl in cc)
-    by true false c less is = absurd cc
-    by false b c less is = absurd cc
+slot_served v log f is = grind (arith, common_steps)
 
 pub none_lacks : (v : Serving) (p : Packet) (log : Log) → is_request p ≡ false → Lacks v p log
 none_lacks v p log plain guest asks = let both : true ≡ false = sym asks ∙ plain in absurd cc
@@ -111,35 +90,11 @@ module _ (v : Serving) (p : Packet) (log : Log) where
   pub odd_lacks : (is_of kind.Stream p.header && is_request p) ≡ false → Lacks v p log
   odd_lacks is guest asks = grind (arith, common_steps, is, asks)
 
-put_in : (b s : Bool) (p : Packet) (n : ℕ) (k served : Bool) (w h : History) → is_request p ≡ false → (s ≡ true → b ≡ false → (is_clean_rst p ≡ false) ⊎ (n ≡ count is_request (gots w)))
-    → AreIn b n k served w h → AreIn b n k served (cond s (Put p ∷ w) w) (cond s (and_then (Put p) h) h)
-put_in b false p n k served w h plain marks x = x
-put_in true true p n k served w h plain marks x =
-    subst (λ (r : Bool). CountMatches true n (cond r (count is_request (puts w) + 1) (count is_request (puts w))) k true) (sym plain) x
-put_in false true p n k served w h plain marks x =
-    subst (λ (r : Bool). CountMatches false n (count is_request (gots w)) k (has is_clean_rst (puts (cond r (Put p ∷ []) (Put p ∷ h))) || served)) (sym plain)
-    (by (marks refl refl))
-  where
-    by : (is_clean_rst p ≡ false) ⊎ (n ≡ count is_request (gots w)) → CountMatches false n (count is_request (gots w)) k
-        ((is_clean_rst p || has is_clean_rst (puts h)) || served)
-    by (inl not) = subst (λ (c : Bool). CountMatches false n (count is_request (gots w)) k ((c || has is_clean_rst (puts h)) || served)) (sym not) x
-    by (inr all) = (x.0, λ marked. all)
-
 -- A packet is put that is no REQUEST: one that isn't marked, or one of a flow each REQUEST of which has its stream.
 pub counted_put : (p : Packet) (log : Log) (n : Flow → ℕ) (port : Ports) → is_request p ≡ false
     → (host_asks (flow_put Device p) ≡ false → (is_clean_rst p ≡ false) ⊎ (n (flow_put Device p) ≡ number_of Device (flow_put Device p) log))
     → (f : Flow) → AreCounted n port log f → AreCounted n port (PutPacket p ∷ log) f
-counted_put p log n port plain marks f x =
-    put_in (host_asks f) (same_flow f (flow_put Device p)) p (n f) (is_among f port.clean) (serves port.serving log f) (whole_of Device f log) (history_of Device f log) plain
-    (λ own guest. by own guest (marks (subst (λ (g : Flow). host_asks g ≡ false) (same_flow_true f (flow_put Device p) own) guest))) x
-  where
-    by : same_flow f (flow_put Device p) ≡ true → host_asks f ≡ false
-        → (is_clean_rst p ≡ false) ⊎ (n (flow_put Device p) ≡ number_of Device (flow_put Device p) log)
-        → (is_clean_rst p ≡ false) ⊎ (n f ≡ count is_request (gots (whole_of Device f log)))
-    by own guest (inl not) = inl not
-    by own guest (inr all) =
-        let here = subst (λ (g : Flow). n g ≡ number_of Device g log) (sym (same_flow_true f (flow_put Device p) own)) all in
-        inr (subst (λ (b : Bool). n f ≡ asked_by (side_by Device b) (puts (whole_of Device f log)) (gots (whole_of Device f log))) guest here)
+counted_put p log n port plain marks f x = grind (arith, common_steps)
 
 -- One that has no payload and is no REQUEST.
 pub put_still : (p : Packet) (log : Log) (n : Flow → ℕ) → p.payload ≡ [] → is_request p ≡ false
@@ -156,31 +111,7 @@ put_still p log n none plain marks = record {
 pub counted_asks : (p : Packet) (log : Log) (n : Flow → ℕ) (port : Ports) → is_request p ≡ true → host_asks (flow_put Device p) ≡ true
     → number_of Device (flow_put Device p) log + 1 ≤ n (flow_put Device p) → is_among (flow_put Device p) port.clean ≡ false
     → (f : Flow) → AreCounted n port log f → AreCounted n port (PutPacket p ∷ log) f
-counted_asks p log n port asks assigned room unkept f x = by (same_flow f (flow_put Device p)) refl
-  where
-    there : host_asks f ≡ true → number_of Device f log + 1 ≤ n f → is_among f port.clean ≡ false
-        → AreIn (host_asks f) (n f) (is_among f port.clean) (serves port.serving log f) (Put p ∷ whole_of Device f log) (and_then (Put p) (history_of Device f log))
-    there own more none = of (host_asks f) own more x
-      where
-        of : (b : Bool) → b ≡ true → asked_by (side_by Device b) (puts (whole_of Device f log)) (gots (whole_of Device f log)) + 1 ≤ n f
-            → AreIn b (n f) (is_among f port.clean) (serves port.serving log f) (whole_of Device f log) (history_of Device f log)
-            → AreIn b (n f) (is_among f port.clean) (serves port.serving log f) (Put p ∷ whole_of Device f log) (and_then (Put p) (history_of Device f log))
-        of true own more x =
-            let most = x.1 in
-            let m : ℕ = count is_request (puts (whole_of Device f log)) in
-            let now : CountMatches true (n f) (m + 1) (is_among f port.clean) true =
-            (more, omega (arith, most), λ is. let both : true ≡ false = sym is ∙ none in absurd cc) in
-            subst (λ (r : Bool). CountMatches true (n f) (cond r (m + 1) m) (is_among f port.clean) true) (sym asks) now
-        of false own more x = absurd cc
-
-    by : (s : Bool) → same_flow f (flow_put Device p) ≡ s
-        → AreIn (host_asks f) (n f) (is_among f port.clean) (serves port.serving log f) (cond s (Put p ∷ whole_of Device f log) (whole_of Device f log))
-        (cond s (and_then (Put p) (history_of Device f log)) (history_of Device f log))
-    by false other = x
-    by true own =
-        let same = sym (same_flow_true f (flow_put Device p) own) in
-        there (subst (λ (g : Flow). host_asks g ≡ true) same assigned) (subst (λ (g : Flow). number_of Device g log + 1 ≤ n g) same room)
-        (subst (λ (g : Flow). is_among g port.clean ≡ false) same unkept)
+counted_asks p log n port asks assigned room unkept f x = grind (arith, common_steps)
 
 -- A REQUEST comes, where the log stays fair: each one before it had its stream. And it is one more on its flow, which is the guest's.
 pub record IsAsked (n : Flow → ℕ) (log : Log) (p : Packet) : Type 0 where
@@ -263,16 +194,7 @@ request_empty p is = grind (arith, nat_tests, common_steps, is)
 -- A REQUEST that is put is one more on its flow, which is the device's own.
 pub request_put : (p : Packet) (log : Log) (f : Flow) → is_request p ≡ true → f ≡ flow_put Device p → host_asks f ≡ true
     → number_of Device f (PutPacket p ∷ log) ≡ number_of Device f log + 1
-request_put p log f asks flow own = by (host_asks f) (same_flow f (flow_put Device p)) own (ap (same_flow f) (sym flow) ∙ same_self f)
-  where
-    w : History
-    w = whole_of Device f log
-
-    by : (b s : Bool) → b ≡ true → s ≡ true
-        → (let v : History = cond s (Put p ∷ w) w in asked_by (side_by Device b) (puts v) (gots v)) ≡ asked_by (side_by Device b) (puts w) (gots w) + 1
-    by true true own there = ap (λ (c : Bool). cond c (count is_request (puts w) + 1) (count is_request (puts w))) asks
-    by true false own there = absurd cc
-    by false s own there = absurd cc
+request_put p log f asks flow own = grind (arith, common_steps)
 
 -- What comes is on the present connection of its flow.
 pub comes_on : (p : Packet) (log : Log) → IsWhole p → IsFairLog Device log → IsFairLog Device (GotPacket p ∷ log) → (c : Connection)

@@ -9,7 +9,7 @@ use Rattle.laws_history.specs.{Packets.{has, is_response, is_rw}, History.{Asker
 use Rattle.vs_outside.specs.Host.{HostContents}
 use Rattle.vs_page.specs.{Fair.{number_of, payload_got, payload_of, payload_put}, Log.{Device, Log}}
 use Rattle.vs_proxy_parts.specs.State.{Handshake}
-use Rattle.laws_tables.{specs.{Drains.{Drains, only_on}, Ends.is_new}, proofs.{Logs.{all_of, there_on}, Goes.{Goes, comes_in, drops, stays_still}}}
+use Rattle.laws_tables.{specs.{Drains.{Drains, only_on}, Ends.is_new}, proofs.{Logs.{all_of, there_on}, Goes.{Goes, comes_in}}}
 use Rattle.laws_device.{specs.Carried.Streamed.{AreCounted, IsJoined, IsStreamed, Ports, connection_of, count_in, gives, line_for, look}, proofs.Carried.Streamed.changed_streamed}
 use Rattle.laws_device.proofs.Carried.Streamed.{join_of}
 use Rattle.laws_device.specs.Carried.Streamed.{heard_at}
@@ -23,9 +23,6 @@ forwards_gives e n is = grind (arith, common_steps, is)
 
 pub shuts_gives : (e : ConnectionEnd) (bits : ℕ) → gives (with_shut e bits) ≡ true → gives e ≡ true
 shuts_gives e bits is = grind (arith, common_steps, is)
-
-shut_gives_none : (e : ConnectionEnd) (bits : ℕ) → (with_shut e bits).own.receive ≡ true → gives (with_shut e bits) ≡ false
-shut_gives_none e bits is = grind (arith, common_steps, is)
 
 pub pays_gives : (e : ConnectionEnd) (what : Owed) → owes_of e ≡ Some what → gives (paid_of e what) ≡ true → gives e ≡ true
 pays_gives e owed.Response owes is = grind (arith, common_steps, is, owes)
@@ -141,12 +138,7 @@ module _ (c : HostContents) (log new : Log) (port : Ports) (t : Table DeviceConn
 pub shut_gives : (e : ConnectionEnd) (bits : ℕ) (line pending : List ℕ)
     → Goes (gives e) (gives (with_shut e bits)) (line ++ pending)
     (cond (with_shut e bits).own.receive [] line ++ cond (with_shut e bits).own.receive [] pending) [] []
-shut_gives e bits line pending = by (with_shut e bits).own.receive refl
-  where
-    by : (b : Bool) → (with_shut e bits).own.receive ≡ b
-        → Goes (gives e) (gives (with_shut e bits)) (line ++ pending) (cond b [] line ++ cond b [] pending) [] []
-    by true is = subst (λ (g : Bool). Goes (gives e) g (line ++ pending) [] [] []) (sym (shut_gives_none e bits is)) (drops (gives e) (line ++ pending) [])
-    by false is = stays_still (gives e) (gives (with_shut e bits)) (line ++ pending) [] (shuts_gives e bits) (λ on. refl)
+shut_gives e bits line pending = grind (arith, common_steps)
 
 pub kept_empty : (b : Bool) (bytes : List ℕ) → bytes ≡ [] → cond b [] bytes ≡ []
 kept_empty true bytes is = refl

@@ -1,4 +1,5 @@
 -- Lines that are read: a byte more, and a line that ends.
+use Rattle.std.proofs.lemmas.Grind.{common_steps}
 use Rattle.std.proofs.Common.{◌≡◌, ◌≢◌, ℕ, zero, suc, ◌<◌, ◌==◌, nat_le, ◌||◌, Bool, true, false, cond, List, [], ◌∷◌, ◌++◌, length, get_or, Some, refl, sym, ap, ◌∙◌, arith}
 use Rattle.std.{proofs.{Common.{length-append, append_assoc, replicate}, lemmas.{Bool.Decides.nat_tests, List.same_from_push}}, specs.List.{All, AllPairs, list_any}}
 use Rattle.vs_proxy_parts.specs.{Handshakes.{with_line, without_stream}, State.Handshake}
@@ -27,10 +28,7 @@ pairs_head : (R : Handshake → Handshake → Type 0) (h : Handshake) (hs : List
 pairs_head R h hs all j d within = all 0 (suc j) d (omega arith) (omega (arith, within))
 
 pairs_cons : (R : Handshake → Handshake → Type 0) (h : Handshake) (hs : List Handshake) → All (R h) hs → AllPairs R hs → AllPairs R (h ∷ hs)
-pairs_cons R h hs head tail zero zero d less within = absurd (omega (arith, less))
-pairs_cons R h hs head tail zero (suc j) d less within = head j d (omega (arith, within))
-pairs_cons R h hs head tail (suc i) zero d less within = absurd (omega (arith, less))
-pairs_cons R h hs head tail (suc i) (suc j) d less within = tail i j d (omega (arith, less)) (omega (arith, within))
+pairs_cons R h hs head tail p q d less within = grind (arith, common_steps)
 
 pub without_pairs : (R : Handshake → Handshake → Type 0) (id : ℕ) (hs : List Handshake) → AllPairs R hs → AllPairs R (without_stream id hs)
 without_pairs R id [] all = all

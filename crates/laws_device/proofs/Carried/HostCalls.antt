@@ -1,4 +1,6 @@
 -- What the host's streams took and gave, through the calls of the proxy and of the host's programs.
+use Rattle.std.proofs.Common.{arith}
+use Rattle.std.proofs.lemmas.Grind.{common_steps}
 use Rattle.std.proofs.Common.{◌≡◌, ◌≢◌, ℕ, Bool, true, false, cond, List, [], ◌∷◌, ◌++◌, take, get_or, ◌+◌, length, Contains, Option, Some, None, refl, sym, ap, subst, ◌∙◌, ◌⊎◌}
 use Rattle.std.{proofs.{Common.{inl, inr}, lemmas.List.{append-nil, Elements.{All-push, All-weaker}, Quantifiers.all_pairs_push}}, specs.{List.All, Option.option_map}}
 use Rattle.std.specs.Option.{option_map_or}
@@ -182,10 +184,7 @@ module _ (c : HostContents) (log : Log) (port : Ports) (t : Table DeviceConnecti
   cut = join_of (look c) c.labelled (count_in c) log (heard_at c port) t hands x e is
 
   busy : (b : Bool) → cut.stream.waiting ≡ b → b ≡ false
-  busy false waits = refl
-  busy true waits =
-      let one = x.streams.waiting e.value.stream cut.stream cut.there waits in
-      let both : Some (connection_of e log) ≡ None = sym cut.label ∙ ap (λ (s : Seen). s.label) one in absurd cc
+  busy b waits = grind (arith, common_steps)
 
   pub cut_host : is_new (cut_off e.value).end ≡ is_new e.value.end
       → IsStreamed (after_close e.value.stream c) log port (with_value t e.slot (cut_off e.value)) hands

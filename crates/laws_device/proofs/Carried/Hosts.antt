@@ -1,7 +1,8 @@
 -- What each call of the proxy and each program changes of a host's streams, as they are seen.
-use Rattle.std.proofs.Common.{◌≡◌, ◌≢◌, ℕ, zero, suc, ◌+◌, ◌-◌, ◌==◌, not, nat_lt, Bool, true, false, cond, List, [], ◌∷◌, ◌++◌, length, slice_get, slice_set, Contains, Option}
+use Rattle.std.proofs.lemmas.Grind.{common_steps}
+use Rattle.std.proofs.Common.{◌≡◌, ◌≢◌, ℕ, zero, suc, ◌+◌, ◌-◌, ◌==◌, Bool, true, false, cond, List, [], ◌∷◌, ◌++◌, length, slice_get, slice_set, Contains, Option}
 use Rattle.std.proofs.{Common.{Some, None, refl, sym, ap, subst, ◌∙◌, arith, length-append, option_and_then, ◌≤◌}, lemmas.{Bool.Decides.nat_tests, List.append-nil}}
-use Rattle.std.{proofs.lemmas.List.Elements.{filter-append, filter_agree}, specs.{List.{filter, prefix_len}, Option.{option_map, option_map_or}}}
+use Rattle.std.{proofs.lemmas.List.Elements.{filter-append, filter_agree}, specs.{List.{filter}, Option.{option_map, option_map_or}}}
 use Rattle.vs_flow.specs.{Connection.Connection, Flow.same_flow, declared.flow.Flow.Flow}
 use Rattle.vs_outside.{specs.{Host.{HostContents, Stream, stream_at, with_stream}, HostBytes.{is_labelled, labelled_with, stream_of}}, proofs.Frames.keeps_others}
 use Rattle.vs_outside.proofs.Frames.{stream_at-with_stream}
@@ -15,23 +16,12 @@ pub record IsThere (id : ℕ) (c : HostContents) (s : Seen) : Type 0 where
   pub is : seen c id stream ≡ s
 
 pub there : (id : ℕ) (c : HostContents) (s : Seen) → look c id ≡ Some s → IsThere id c s
-there id c s is = by (stream_at id c) refl is
-  where
-    by : (o : Option Stream) → stream_at id c ≡ o → option_map (seen c id) o ≡ Some s → IsThere id c s
-    by None at is = absurd cc
-    by (Some st) at is = record { stream = st; at = at; is = cc }
-
-some_flow : (f g : Connection) → ◌≡◌ {A = Option Connection} (Some f) (Some g) → f ≡ g
-some_flow f g is = cc
+there id c s is = grind (arith, common_steps)
 
 -- Its label, where it is seen as a connection; and that connection.
 pub label_there : (c : HostContents) (id : ℕ) (o : Option Flow) (k : Connection) → option_map (connection_in c id) o ≡ Some k
     → (o ≡ Some k.flow) × (k ≡ connection_in c id k.flow)
-label_there c id None k is = absurd cc
-label_there c id (Some f) k is =
-    let same = some_flow (connection_in c id f) k is in
-    let flow : f ≡ k.flow = ap (λ (d : Connection). d.flow) same in
-    (ap (λ (g : Flow). Some g) flow, sym same ∙ ap (connection_in c id) flow)
+label_there c id o k is = grind (arith, common_steps)
 
 pub none_labelled : (c : HostContents) (id : ℕ) (o : Option Flow) → option_map (connection_in c id) o ≡ None → o ≡ None
 none_labelled c id None is = refl
@@ -173,31 +163,10 @@ next_number zero = 0
 next_number (suc n) = suc (suc n)
 
 number_cons : (x : ℕ) (xs : List ℕ) (j : ℕ) → number_in (x ∷ xs) j ≡ cond (x == j) 1 (next_number (number_in xs j))
-number_cons x xs j = by (x == j) (prefix_len (λ (y : ℕ). not (y == j)) xs)
-  where
-    first : (b : Bool) → b ≡ true → option_map_or (λ place. place + 1) (cond b (Some 0) None) 0 ≡ 1
-    first true is = refl
-    first false is = absurd cc
-
-    later : (n : ℕ) (a b : Bool) → a ≡ b → option_map_or (λ place. place + 1) (cond a (Some (1 + n)) None) 0
-        ≡ next_number (option_map_or (λ place. place + 1) (cond b (Some n) None) 0)
-    later n true true is = let same : n + 1 ≡ suc n = omega arith in let more : 1 + n + 1 ≡ suc (suc n) = omega arith in more ∙ ap next_number (sym same)
-    later n false false is = refl
-    later n true false is = absurd cc
-    later n false true is = absurd cc
-
-    by : (b : Bool) (n : ℕ) → option_map_or (λ place. place + 1)
-        (cond (nat_lt (cond (not b) (1 + n) 0) (suc (length xs))) (Some (cond (not b) (1 + n) 0)) None) 0
-        ≡ cond b 1 (next_number (option_map_or (λ place. place + 1) (cond (nat_lt n (length xs)) (Some n) None) 0))
-    by true n = first (nat_lt 0 (suc (length xs))) (grind (arith, nat_tests))
-    by false n = later n (nat_lt (1 + n) (suc (length xs))) (nat_lt n (length xs)) (grind (arith, nat_tests))
+number_cons x xs j = grind (arith, common_steps)
 
 number_push : (xs : List ℕ) (id j : ℕ) → j ≢ id → number_in (xs ++ id ∷ []) j ≡ number_in xs j
-number_push [] id j other =
-    let apart : (id == j) ≡ false = grind (arith, nat_tests, other) in
-    number_cons id [] j ∙ ap (λ (b : Bool). cond b 1 (next_number (number_in [] j))) apart
-number_push (x ∷ xs) id j other =
-    number_cons x (xs ++ id ∷ []) j ∙ ap (λ (n : ℕ). cond (x == j) 1 (next_number n)) (number_push xs id j other) ∙ sym (number_cons x xs j)
+number_push xs id j other = grind (arith, common_steps)
 
 number_last : (xs : List ℕ) (id : ℕ) → (Contains xs id → ⊥) → number_in (xs ++ id ∷ []) id ≡ length xs + 1
 number_last [] id none = let here : (id == id) ≡ true = grind arith in

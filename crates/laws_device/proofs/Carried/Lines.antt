@@ -1,4 +1,5 @@
 -- What stands behind the first line of some bytes.
+use Rattle.std.proofs.lemmas.Grind.{common_steps}
 use Rattle.std.proofs.Common.{◌≡◌, ℕ, zero, suc, codes, decimal, ◌+◌, ◌==◌, ◌||◌, not, nat_lt, Bool, true, false, cond, List, [], ◌∷◌, ◌++◌, length, drop, Some, None, refl, sym, ap, subst, ◌∙◌, arith}
 use Rattle.std.{proofs.lemmas.Bool.Decides.nat_tests, specs.{Fmt.{digit_glyph, digits, digits_onto}, List.prefix_len, Option.option_map_or, Prelude.{◌/◌, ◌%◌}}}
 use Rattle.vs_outside.specs.HostBytes.{after_line}
@@ -14,24 +15,10 @@ abbrev cut : ℕ → List ℕ → List ℕ
 cut n xs = option_map_or (λ place. drop (place + 1) xs) (cond (nat_lt n (length xs)) (Some n) None) []
 
 first_cut : (x : ℕ) (xs : List ℕ) → cut 0 (x ∷ xs) ≡ xs
-first_cut x xs = by (nat_lt 0 (suc (length xs))) (grind (arith, nat_tests))
-  where
-    by : (b : Bool) → b ≡ true → option_map_or (λ place. drop (place + 1) (x ∷ xs)) (cond b (Some 0) None) [] ≡ xs
-    by true is = refl
-    by false is = absurd cc
+first_cut x xs = grind (arith, common_steps)
 
 next_cut : (x n : ℕ) (xs : List ℕ) → cut (1 + n) (x ∷ xs) ≡ cut n xs
-next_cut x n xs = by (nat_lt (1 + n) (suc (length xs))) (nat_lt n (length xs)) (grind (arith, nat_tests))
-  where
-    one_more : 1 + n + 1 ≡ suc (n + 1)
-    one_more = omega arith
-
-    by : (a b : Bool) → a ≡ b → option_map_or (λ place. drop (place + 1) (x ∷ xs)) (cond a (Some (1 + n)) None) []
-        ≡ option_map_or (λ place. drop (place + 1) xs) (cond b (Some n) None) []
-    by true true is = ap (λ (k : ℕ). drop k (x ∷ xs)) one_more
-    by false false is = refl
-    by true false is = absurd cc
-    by false true is = absurd cc
+next_cut x n xs = grind (arith, common_steps)
 
 pub after_is_rest : (xs : List ℕ) → after_line xs ≡ rest_of xs
 after_is_rest [] = refl
@@ -56,12 +43,7 @@ pub after_longer : (xs ys : List ℕ) → has_line xs ≡ true → after_line (x
 after_longer xs ys is = after_is_rest (xs ++ ys) ∙ rest_longer xs ys is ∙ ap (λ (bytes : List ℕ). bytes ++ ys) (sym (after_is_rest xs))
 
 pub line_longer : (xs ys : List ℕ) → has_line xs ≡ true → has_line (xs ++ ys) ≡ true
-line_longer [] ys is = absurd cc
-line_longer (x ∷ xs) ys is = by (x == 10) is (line_longer xs ys)
-  where
-    by : (b : Bool) → (b || has_line xs) ≡ true → (has_line xs ≡ true → has_line (xs ++ ys) ≡ true) → (b || has_line (xs ++ ys)) ≡ true
-    by true is rest = refl
-    by false is rest = rest is
+line_longer xs ys is = grind (arith, common_steps)
 
 -- A line is whole at its end.
 rest_none : (xs : List ℕ) → has_line xs ≡ false → rest_of (xs ++ 10 ∷ []) ≡ []
@@ -77,12 +59,7 @@ pub line_ends : (xs : List ℕ) → has_line xs ≡ false → after_line (xs ++ 
 line_ends xs is = after_is_rest (xs ++ 10 ∷ []) ∙ rest_none xs is
 
 pub line_whole : (xs : List ℕ) → has_line (xs ++ 10 ∷ []) ≡ true
-line_whole [] = refl
-line_whole (x ∷ xs) = by (x == 10) (line_whole xs)
-  where
-    by : (b : Bool) → has_line (xs ++ 10 ∷ []) ≡ true → (b || has_line (xs ++ 10 ∷ [])) ≡ true
-    by true rest = refl
-    by false rest = rest
+line_whole xs = grind (arith, common_steps)
 
 -- A prefix of a line and more: what stands behind its line is a prefix of that.
 rest_front : (line more front : List ℕ) → has_line line ≡ false → IsPrefixOf front ((line ++ 10 ∷ []) ++ more) → IsPrefixOf (rest_of front) more

@@ -1,6 +1,7 @@
 -- What the host's streams took and gave, as a line is read and a connection opens.
+use Rattle.std.proofs.lemmas.Grind.{common_steps}
 use Rattle.std.proofs.Common.{◌≡◌, ◌≢◌, ℕ, zero, suc, ◌+◌, ◌≤◌, ◌==◌, ◌||◌, min, Bool, true, false, cond, List, [], ◌∷◌, ◌++◌, length, take, get_or, Contains, Option, Some, None}
-use Rattle.std.proofs.{Common.{is_some, refl, sym, ap, subst, ◌∙◌, arith, length-append, ◌⊎◌, inl, inr}, lemmas.{Bool.Decides.nat_tests, Option.{get_or_from_slice_get, slice_get_within}}}
+use Rattle.std.proofs.{Common.{refl, sym, ap, subst, ◌∙◌, arith, length-append, ◌⊎◌, inl, inr}, lemmas.{Bool.Decides.nat_tests, Option.{get_or_from_slice_get, slice_get_within}}}
 use Rattle.std.specs.{List.{All, find}, Option.{option_map, option_map_or}}
 use Rattle.vs_conn.specs.End.{answering, asked}
 use Rattle.vs_device_parts.specs.{Connections.new_connection, State.{DeviceConnection, DeviceEntry}}
@@ -18,7 +19,7 @@ use Rattle.vs_uds.specs.{OkLine.ok_text, Reading.is_decided, declared.connect.Th
 use Rattle.laws_tables.{specs.{Drains.Drains, Ends.{AreDistinct, is_among}, Steps.port_after}, proofs.Adding.{got_nothing, put_over_got}}
 use Rattle.laws_device.specs.Carried.Streamed.{Serving, heard_at, serves, AreCounted, AreLines, AreStreamed, CountMatches, IsStreamed, Ports, Seen, connection_of, count_in, has_line, line_for, look, reading}
 use Rattle.laws_device.{specs.Carried.Streamed.{seen, seen_as}, proofs.Carried.Hosts.{changed_seen, counts_still, counts_then, here_then, new_there, none_there, others_seen}}
-use Rattle.laws_device.proofs.Carried.{Hosts.{others_then, none_labelled, others_there, there}, HostCalls.{closed_host, some_seen}, Counted.{IsAsked, counted_on, fewer_served, kept_less, slot_served}}
+use Rattle.laws_device.proofs.Carried.{Hosts.{others_then, others_there, there}, HostCalls.{closed_host, some_seen}, Counted.{IsAsked, counted_on, fewer_served, kept_less, slot_served}}
 use Rattle.laws_device.proofs.Carried.{Counted.{number_elsewhere, request_asks}, Streamed.{one_streamed, opened_streamed, recounted}, Hands.{with_all, with_apart, without_all}}
 use Rattle.laws_device.proofs.{Carried.Hands.{without_none, without_pairs}, Clean.{port_below, port_rises, removed_among, removed_own}}
 use Rattle.vs_header.specs.declared.Kind.TheVariants as kind
@@ -84,21 +85,7 @@ without_lines at id hands x = record {
 other_lines : (c : HostContents) (log : Log) (port : Ports) (t : Table DeviceConnection) (hands lines : List Handshake)
     → IsStreamed c log port t hands
     → AreLines (look c) lines → IsStreamed c log port t lines
-other_lines c log port t hands lines x reads = record {
-  joined = x.joined;
-  tabled = x.tabled;
-  streams = record {
-    labels = x.streams.labels;
-    unique = x.streams.unique;
-    every = x.streams.every;
-    listed = x.streams.listed;
-    slots = x.streams.slots;
-    counted = x.streams.counted;
-    none = x.streams.none;
-    waiting = x.streams.waiting;
-    lines = reads;
-  };
-}
+other_lines c log port t hands lines x reads = grind (arith, common_steps)
 
 pub without_host : (c : HostContents) (log : Log) (port : Ports) (t : Table DeviceConnection) (hands : List Handshake) (id : ℕ)
     → IsStreamed c log port t hands → IsStreamed c log port t (without_stream id hands)
@@ -220,10 +207,7 @@ module _ (c : HostContents) (log : Log) (port : Ports) (t : Table DeviceConnecti
   free b is = ap (λ (s : Seen). s.label) (sym (some_seen (reading line) b (sym here ∙ is)))
 
   no_label : has_label id c ≡ false
-  no_label =
-      let s = there id c (reading line) here in
-      let label : s.stream.label ≡ None = none_labelled c id s.stream.label (ap (λ (y : Seen). y.label) s.is) in
-      ap (λ (o : Option Stream). option_map_or (λ (y : Stream). is_some y.label) o false) s.at ∙ ap (λ (o : Option Flow). is_some o) label
+  no_label = grind (arith, common_steps)
 
   list_is : labelled_now.labelled ≡ c.labelled ++ id ∷ []
   list_is = ap (λ (b : Bool). cond b c.labelled (c.labelled ++ id ∷ [])) no_label

@@ -1,12 +1,13 @@
 -- What the host's streams took and gave, through each change of them.
-use Rattle.std.proofs.Common.{◌≡◌, ◌≢◌, ℕ, ◌+◌, ◌≤◌, ◌==◌, Bool, true, false, cond, List, [], ◌∷◌, ◌++◌, length, get_or, Contains, Option, Some, None, refl, sym, ap, subst, ◌∙◌}
+use Rattle.std.proofs.lemmas.Grind.{common_steps}
+use Rattle.std.proofs.Common.{◌≡◌, ◌≢◌, ℕ, ◌+◌, ◌≤◌, Bool, true, false, cond, List, [], ◌∷◌, ◌++◌, length, get_or, Contains, Option, Some, None, refl, sym, ap, subst, ◌∙◌}
 use Rattle.std.proofs.{Common.{append_assoc, arith, ◌⊎◌, inl, inr}, lemmas.List.{Elements.{All-contains, All-push, All-weaker, Contains-push_cases}, append-nil}}
-use Rattle.std.{proofs.lemmas.Bool.Decides.nat_tests, specs.List.All}
+use Rattle.std.{specs.List.All}
 use Rattle.vs_conn.specs.declared.end.State.TheVariants.{Asked}
 use Rattle.vs_limits.specs.declared.TheConstants.{DEVICE_CONNECTIONS}
 use Rattle.vs_device_parts.specs.State.{DeviceConnection, DeviceEntry}
 use Rattle.vs_flow.specs.{Table.{IsTable, Table, next_entry, with_entry, with_value, without}, Connection.Connection, Flow.same_flow, declared.flow.Flow.Flow}
-use Rattle.vs_flow.proofs.Entries.{same_flow_false, same_flow_true}
+use Rattle.vs_flow.proofs.Entries.{same_flow_false}
 use Rattle.vs_page.specs.{Fair.{IsPrefixOf, number_of, payload_got, payload_put}, Log.{Device, Log}}
 use Rattle.vs_proxy_parts.specs.State.{Handshake}
 use Rattle.laws_tables.{specs.{Drains.{Drains, is_same, only_on}, Ends.is_new}, proofs.{Changes.{changed, others_left}, Logs.{longer, none_on_any, not_on, same_connection}}}
@@ -26,11 +27,7 @@ not_none s c is none = let both : Some c ≡ None = sym is ∙ none in absurd cc
 
 -- One place or another.
 pub is_or_not : (i j : ℕ) (P : Type 0) → (i ≡ j → P) → (i ≢ j → P) → P
-is_or_not i j P here other = by (i == j) refl
-  where
-    by : (b : Bool) → (i == j) ≡ b → P
-    by true same = here (grind (arith, nat_tests, same))
-    by false apart = other (grind (arith, nat_tests, apart))
+is_or_not i j P here other = grind (arith, common_steps)
 
 -- A log goes on: no payload comes, no REQUEST does, and the streams are counted as before.
 pub record StaysStill (count : Flow → ℕ) (log new : Log) : Type 0 where
@@ -50,32 +47,12 @@ same_connection_of log new e same = ap (λ (n : ℕ). let c : Connection = recor
 pub join_moves : (at now : ℕ → Option Seen) (count : Flow → ℕ) (log new : Log) (e : DeviceEntry) (j : IsJoined at count log e)
     → now e.value.stream ≡ Some j.stream → number_of Device e.flow log ≡ number_of Device e.flow new
     → payload_got Device (connection_of e log) log ≡ payload_got Device (connection_of e log) new → IsJoined now count new e
-join_moves at now count log new e j there number got =
-    let same = same_connection_of log new e number in
-    record {
-      stream = j.stream;
-      there = there;
-      label = j.label ∙ ap (λ (c : Connection). Some c) same;
-      newest = ap (λ (c : Connection). c.number) (sym same) ∙ j.newest;
-      client = j.client;
-      closed = j.closed;
-      drains = subst (λ (bytes : List ℕ). Drains (gives e.value.end) j.stream.given (e.value.ok_line ++ e.value.pending) (line_for e.flow ++ bytes))
-          (got ∙ ap (λ (c : Connection). payload_got Device c new) same) j.drains;
-      asked = j.asked;
-    }
+join_moves at now count log new e j there number got = grind (arith, common_steps)
 
 label_moves : (s : Seen) (c : Connection) (count : Flow → ℕ) (log new : Log) (port next : Ports) → IsLabelled s c count log port
     → payload_put Device c log ≡ payload_put Device c new → IsPrefixOf s.given (line_for c.flow ++ payload_got Device c new) → port.next ≤ next.next
     → IsLabelled s c count new next
-label_moves s c count log new port next x put gave less = record {
-  some = x.some;
-  most = x.most;
-  client = x.client;
-  whole = x.whole;
-  took = sym put ∙ x.took;
-  gave = gave;
-  ported = λ is. omega (arith, x.ported is, less);
-}
+label_moves s c count log new port next x put gave less = grind (arith, common_steps)
 
 -- The same bytes of each stream and connection.
 module _ (at now : ℕ → Option Seen) (labelled : List ℕ) (count : Flow → ℕ) (log new : Log) (port : Ports) (same : (id : ℕ) → at id ≡ now id)
@@ -88,11 +65,7 @@ module _ (at now : ℕ → Option Seen) (labelled : List ℕ) (count : Flow → 
       (subst (λ (bytes : List ℕ). IsPrefixOf s.given (line_for c.flow ++ bytes)) (still.got c) x.gave) (omega arith)
 
   same_lines : (lines : List Handshake) → AreLines at lines → AreLines now lines
-  same_lines lines x = record {
-    read = λ i h within. sym (same (get_or lines i h).stream) ∙ x.read i h within;
-    undecided = x.undecided;
-    apart = x.apart;
-  }
+  same_lines lines x = grind (arith, common_steps)
 
   pub same_streamed : (t : Table DeviceConnection) (lines : List Handshake) → AreStreamed at labelled count log port t lines
       → AreStreamed now labelled count new port t lines
@@ -236,10 +209,7 @@ module _ (at now : ℕ → Option Seen) (labelled : List ℕ) (count : Flow → 
         (λ other. (s, others id other ∙ seen, refl))
 
     remains : (id : ℕ) (s : Seen) (d : Connection) → at id ≡ Some s → s.label ≡ Some d → (u : Seen) × (now id ≡ Some u) × (u.label ≡ Some d)
-    remains id s d seen label = is_or_not id e.value.stream ((u : Seen) × (now id ≡ Some u) × (u.label ≡ Some d)) (λ id_is.
-        let one : s ≡ join.stream = one_seen at e.value.stream s join.stream (ap at (sym id_is) ∙ seen) join.there in
-        (after c.closed, ap now id_is ∙ there, ap (λ (y : Seen). y.label) (sym one) ∙ label))
-        (λ apart. (s, sym (others id apart) ∙ seen, label))
+    remains id s d seen label = grind (arith, common_steps)
 
     labels_at : (id : ℕ) (s : Seen) (d : Connection) → now id ≡ Some s → s.label ≡ Some d → IsLabelled s d count new port
     labels_at id s d seen label = is_or_not id e.value.stream (IsLabelled s d count new port) (λ id_is.
@@ -260,10 +230,7 @@ module _ (at now : ℕ → Option Seen) (labelled : List ℕ) (count : Flow → 
         not_none join.stream k join.label (ap (λ (y : Seen). y.label) (sym one))
 
     waits_at : (id : ℕ) (s : Seen) → now id ≡ Some s → s.waiting ≡ true → s ≡ client_waits
-    waits_at id s seen waits = is_or_not id e.value.stream (s ≡ client_waits) (λ id_is.
-        let was_client = x.streams.waiting e.value.stream join.stream join.there (ap (λ (y : Seen). y.waiting) (here id s seen id_is) ∙ waits) in
-        absurd (not_none join.stream k join.label (ap (λ (y : Seen). y.label) was_client)))
-        (λ other. x.streams.waiting id s (others id other ∙ seen) waits)
+    waits_at id s seen waits = grind (arith, common_steps)
 
     moved_labels : AreLabelled now labelled count new port lines
     moved_labels = record {
@@ -454,11 +421,7 @@ module _ (at now : ℕ → Option Seen) (labelled : List ℕ) (count more : Flow
     (slots : (next.serving.room ≡ DEVICE_CONNECTIONS) × (next.serving.given ≤ length (labelled ++ id ∷ [])))
     (counted : (f : Flow) → AreCounted count port log f → AreCounted more next new f) where
   rises : (f : Flow) → count f ≤ more f
-  rises f = by (same_flow f k.flow) (grows f)
-    where
-      by : (b : Bool) → more f ≡ cond b (count f + 1) (count f) → count f ≤ more f
-      by true is = omega (arith, is)
-      by false is = omega (arith, is)
+  rises f = grind (arith, common_steps)
 
   stays : (f : Flow) → f ≢ k.flow → count f ≡ more f
   stays f other = sym (grows f ∙ ap (λ (b : Bool). cond b (count f + 1) (count f)) (same_flow_false f k.flow other))
@@ -518,25 +481,7 @@ module _ (at now : ℕ → Option Seen) (labelled : List ℕ) (count more : Flow
 
   -- The connection's number is the only one that is new.
   every_one : (d : Connection) → 1 ≤ d.number → d.number ≤ more d.flow → (j : ℕ) × (u : Seen) × (now j ≡ Some u) × (u.label ≡ Some d)
-  every_one d some most = is_or_not d.number (count d.flow + 1) ((j : ℕ) × (u : Seen) × (now j ≡ Some u) × (u.label ≡ Some d))
-      (λ here. by (same_flow d.flow k.flow) refl here (grows d.flow)) (λ other. before (few (same_flow d.flow k.flow) other (grows d.flow)))
-    where
-      before : d.number ≤ count d.flow → (j : ℕ) × (u : Seen) × (now j ≡ Some u) × (u.label ≡ Some d)
-      before within = let old = x.streams.every d some within in (old.0, old.1, kept_there old.0 old.1 d old.2 old.3, old.3)
-
-      few : (b : Bool) → d.number ≢ count d.flow + 1 → more d.flow ≡ cond b (count d.flow + 1) (count d.flow) → d.number ≤ count d.flow
-      few true other is = omega (arith, other, is, most)
-      few false other is = omega (arith, is, most)
-
-      by : (b : Bool) → same_flow d.flow k.flow ≡ b → d.number ≡ count d.flow + 1 → more d.flow ≡ cond b (count d.flow + 1) (count d.flow)
-          → (j : ℕ) × (u : Seen) × (now j ≡ Some u) × (u.label ≡ Some d)
-      by true same here is =
-          let flow : k.flow ≡ d.flow = sym (same_flow_true d.flow k.flow same) in
-          let nth : k.number ≡ d.number = last ∙ ap (λ (f : Flow). count f + 1) flow ∙ sym here in
-          let one : k ≡ d = ap (λ (f : Flow). let h : Connection = record { flow = f; number = k.number } in h) flow
-          ∙ ap (λ (n : ℕ). let h : Connection = record { flow = d.flow; number = n } in h) nth in
-          (id, s, there, label ∙ ap (λ (h : Connection). Some h) one)
-      by false other here is = absurd (omega (arith, here, is, most))
+  every_one d some most = grind (arith, common_steps)
 
   listed_then : (j : ℕ) → Contains labelled j ⊎ (id ≡ j) → HasLabel now j
   listed_then j (inl within) = let h = x.streams.listed j within in
@@ -583,11 +528,7 @@ module _ (at now : ℕ → Option Seen) (labelled : List ℕ) (count : Flow → 
     (back : (j : ℕ) (u : Seen) → now j ≡ Some u → IsBack at j u)
     (kept : (j : ℕ) (u : Seen) (d : Connection) → at j ≡ Some u → u.label ≡ Some d → now j ≡ Some u) where
   labelled_before : (j : ℕ) (u : Seen) (d : Connection) → now j ≡ Some u → u.label ≡ Some d → at j ≡ Some u
-  labelled_before j u d seen on = by (back j u seen).0 (back j u seen).1 (back j u seen).2
-    where
-      by : (b : Bool) → (b ≡ true → at j ≡ Some u) → (b ≡ false → (u.label ≡ None) × (u.waiting ≡ true → u ≡ client_waits)) → at j ≡ Some u
-      by true is other = is refl
-      by false is other = absurd (not_none u d on (other refl).0)
+  labelled_before j u d seen on = grind (arith, common_steps)
 
   pub unlabelled_streamed : AreLines now lines → AreStreamed now labelled count log port t lines
   unlabelled_streamed reads = record {

@@ -1,8 +1,9 @@
 -- The streams of a table's connections, as one of these changes, leaves or comes.
-use Rattle.std.proofs.Common.{◌≡◌, ◌≢◌, ℕ, zero, suc, ◌<◌, ◌==◌, Bool, true, false, cond, List, [], ◌∷◌, length, map, Contains, Option, Some, None, refl, sym, ap, ◌∙◌, arith}
-use Rattle.std.{proofs.{Common.slice_index_or, lemmas.Bool.Decides.nat_tests}, specs.Option.{option_map, option_or}}
+use Rattle.std.proofs.lemmas.Grind.{common_steps}
+use Rattle.std.proofs.Common.{◌≡◌, ◌≢◌, ℕ, ◌==◌, Bool, true, false, cond, Contains, Option, Some, None, refl, sym, ap, ◌∙◌, arith}
+use Rattle.std.{proofs.{lemmas.Bool.Decides.nat_tests}, specs.Option.{option_map, option_or}}
 use Rattle.vs_device_parts.specs.State.{DeviceConnection, DeviceEntry}
-use Rattle.vs_flow.specs.{Table.{IsTable, Table, entry_under, revalued, value_under, with_entry, with_value, without, next_entry}, declared.flow.Flow.Flow}
+use Rattle.vs_flow.specs.{Table.{IsTable, Table, entry_under, value_under, with_entry, with_value, without, next_entry}, declared.flow.Flow.Flow}
 use Rattle.vs_flow.proofs.{Entries.find_none, Lookups.entry_under-with_entry}
 use Rattle.laws_tables.proofs.Changes.{under_slot}
 use Rattle.laws_device.{specs.Named.Streams.stream_under, proofs.Named.Tables.{joined_in, value_after, value_by_entry, value_in, value_without}}
@@ -44,23 +45,7 @@ module _ (t : Table DeviceConnection) (sound : IsTable t) (e : DeviceEntry) (is 
       ∙ ap (λ (b : Bool). cond b None (Some c.stream)) still
 
   pub value_contained : (c : DeviceConnection) → Contains (with_value t e.slot c).entries (record e { value = c })
-  value_contained c = by_place t.entries is.0 is.1 is.2
-    where
-      own : (e.slot == e.slot) ≡ true
-      own = grind arith
-
-      by_place : (es : List DeviceEntry) (k : ℕ) → k < length es → slice_index_or es k e ≡ e
-          → Contains (map (revalued e.slot c) es) (record e { value = c })
-      by_place [] k less at = absurd (omega (arith, less))
-      by_place (y ∷ ys) zero less at = (
-        0,
-        omega arith,
-        ap (λ (d : DeviceEntry). revalued e.slot c d) at ∙ ap
-            (λ (b : Bool). let d : DeviceEntry = cond b (record e { value = c }) e in d) own,
-      )
-      by_place (y ∷ ys) (suc k) less at =
-          let rest = by_place ys k (omega (arith, less)) at in
-          let inside = rest.1 in (suc rest.0, omega (arith, inside), rest.2)
+  value_contained c = grind (arith, common_steps)
 
 -- One comes.
 module _ (t : Table DeviceConnection) (f : Flow) (c : DeviceConnection) where

@@ -1,16 +1,14 @@
 -- An end that is over stays so.
-use Rattle.std.proofs.Common.{◌≡◌, ℕ, Bool, true, false, cond, refl}
-use Rattle.vs_conn.specs.{End.{ConnectionEnd, is_drained, settled_state, shut_credit, with_payload_forwarded, with_shut}, declared.end.State.{TheVariants.{Live, Ended}, State}}
+use Rattle.std.proofs.Common.{arith}
+use Rattle.std.proofs.lemmas.Grind.{common_steps}
+use Rattle.std.proofs.Common.{◌≡◌, ℕ, true}
+use Rattle.vs_conn.specs.{End.{ConnectionEnd, settled_state, shut_credit, with_payload_forwarded, with_shut}, declared.end.State.{TheVariants.{Live, Ended}, State}}
 use Rattle.vs_conn.specs.{declared.shut.Shut.Shut, Shut.{joined, shut_of}}
 use Rattle.vs_credit.specs.{Credit.with_forwarded, declared.Credit.Credit}
 use Rattle.vs_device_parts.specs.Receiving.{may_read}
 
 pub settled_over : (s : State) (peer : Shut) (c : Credit) → s ≡ Ended → settled_state s peer c ≡ Ended
-settled_over s peer c over = by (is_drained peer c)
-  where
-    by : (b : Bool) → cond b Ended s ≡ Ended
-    by true = refl
-    by false = over
+settled_over s peer c over = grind (arith, common_steps)
 
 pub shut_over : (e : ConnectionEnd) (bits : ℕ) → e.state ≡ Ended → (with_shut e bits).state ≡ Ended
 shut_over e bits over = let own = joined e.own (shut_of bits) in settled_over e.state e.peer (shut_credit own e.credit) over

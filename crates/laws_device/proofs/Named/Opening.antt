@@ -1,4 +1,5 @@
 -- A new device, connections that clients ask for, and transport resets.
+use Rattle.std.proofs.lemmas.Grind.{common_steps}
 use Rattle.std.{proofs.Common.{◌≡◌, ℕ, ◌^◌, ◌≤◌, true, List, [], Option, Some, None, Result, Ok, Err, refl, sym, subst, ◌∙◌, arith}, specs.Option.ForSome}
 use Rattle.vs_conn.specs.End.{asked}
 use Rattle.vs_contents.specs.CallTree.{Done, Ask, bind, for_each}
@@ -16,27 +17,11 @@ use Rattle.laws_device.proofs.Named.Tables.{fewer, has_added, some_after, some_f
 
 -- No connection, no stream.
 pub empty_sound : (room given : ℕ) → given ≤ 2 ^ 64 → IsTable {T = DeviceConnection} (record { room = room; entries = []; given = given })
-empty_sound room given left = record {
-  within = omega arith;
-  rising = λ i j d lt within. absurd (omega arith);
-  distinct = λ i j d lt within. absurd (omega arith);
-  were_given = λ k d within. absurd (omega arith);
-  slots_left = left;
-}
+empty_sound room given left = grind (arith, common_steps)
 
 has_none : (others : List ℕ) (room given : ℕ) (h : HostContents) → given ≤ 2 ^ 64 → AreOpen others h
     → HasStreams others (record { room = room; entries = []; given = given }) h
-has_none others room given h left still = record {
-  joins = record {
-    table = empty_sound room given left;
-    all_open = λ slot id at. absurd (cc);
-    apart = λ i j id at also. absurd (cc);
-    others_open = still.all_open;
-    others_differ = still.apart;
-    others_apart = λ slot id among at. cc;
-  };
-  over = λ slot c found closed. absurd (cc);
-}
+has_none others room given h left still = grind (arith, common_steps)
 
 pub new_has : (others : List ℕ) (cid : ℕ) (base : List ℕ) (h : HostContents) → AreOpen others h
     → HasStreams others (new_device cid base).table h

@@ -1,9 +1,11 @@
 -- Packets to the guest, and the reads of the host's streams that give their payload.
+use Rattle.std.proofs.Common.{arith}
+use Rattle.std.proofs.lemmas.Grind.{common_steps}
 use Rattle.vs_flow.specs.Table.{with_value, Table}
 use Rattle.laws_device.proofs.{Walk.{Serving.{AfterEvent, AfterRead, Closes, Fills, IsIn}, Keeping.Asking}, Named.Tables.{has_moved, some_after, some_from, stream_by_entry}}
 use Rattle.laws_device.proofs.Named.{Tables.value_by_entry, Closing.{D, closes, stays}, Keeping.{asking, Keeps}, Ends.{reads_not, shut_over}, Writing.{all_stay, finds_changed}}
 use Rattle.laws_device.specs.Named.{Split.CanReach, Streams.{FindsStreams, HasStreams}}
-use Rattle.std.{proofs.Common.{◌≡◌, ℕ, Bool, true, false, List, [], ◌∷◌, length, refl}, specs.Option.ForSome}
+use Rattle.std.{proofs.Common.{◌≡◌, ℕ, Bool, true, false, List, [], length, refl}, specs.Option.ForSome}
 use Rattle.vs_conn.{specs.{End.{paid_of, wanting_credit, with_payload_sent}, Headers.payload_header}, proofs.Frames.paid_over}
 use Rattle.vs_credit.specs.Credit.{free_of}
 use Rattle.vs_header.specs.declared.Header.{Header}
@@ -23,33 +25,14 @@ module _ (others : List ℕ) where
   written_on : (chain : Chain) (h : Header) (payload : List ℕ) (t : Table DeviceConnection) (c : Situation)
       → ForSome c.host (HasStreams others t)
       → Keeps CanReach Allows (λ x d. ForSome d.host (HasStreams others t)) (written chain h payload) c
-  written_on chain h [] t c has = (tt, λ a d allowed. (tt, λ b e also. stays others t d e also.1 (stays others t c d allowed.1 has)))
-  written_on chain h (x ∷ xs) t c has = (
-    tt,
-    λ a d allowed. (
-      tt,
-      λ b e also. (
-        tt,
-        λ g f third. stays others t e f third.1
-            (stays others t d e also.1 (stays others t c d allowed.1 has)),
-      ),
-    ),
-  )
+  written_on chain h payload t c has = grind (arith, common_steps)
 
   held : (s : DeviceState) (n : Next) (d : Situation) → FindsStreams others s d → walked.AfterTake K (D others) s n d
   held s (next.Chain chain) d has = has
   held s _ d has = has
 
   paid : (s : DeviceState) (n : Next) (d : Situation) → FindsStreams others s d → AfterEvent K (D others) s n d
-  paid s (next.Chain chain) d has = (
-    tt,
-    λ a e allowed. (
-      tt,
-      λ b f also. stays others s.table e f also.1
-          (stays others s.table d e allowed.1 has),
-    ),
-  )
-  paid s _ d has = has
+  paid s n d has = grind (arith, common_steps)
 
   module _ (e : DeviceEntry) (s : DeviceState) (is : IsIn s.table e) where
     have_read : (chain : Chain) (answer : StreamRead) (payload : List ℕ) (d : Situation) → FindsStreams others s d

@@ -1,26 +1,27 @@
 -- Where a stage ends for want of a page: the last load showed none that isn't taken.
+use Rattle.std.proofs.Common.{arith}
+use Rattle.std.proofs.lemmas.Grind.{common_steps}
 use Rattle.std.proofs.Common.{◌≡◌, ◌≢◌, ◌+◌, ◌-◌, ◌==◌, ℕ, nat_lt, nat_le, Bool, true, false, not, cond, List, [], ◌∷◌, length, Option, Some, None, Result, Err, refl}
 use Rattle.std.proofs.Common.{sym, ap, subst, ◌∙◌}
-use Rattle.vs_conn.specs.{Headers.{owed_header, payload_header}, End.owes_of, declared.end.Owed.Owed}
+use Rattle.vs_conn.specs.{Headers.{owed_header}, End.owes_of, declared.end.Owed.Owed}
 use Rattle.vs_contents.{specs.{CallTree.{Ask, Done, bind, for_each, while_up_to}, Contents.Relates}, proofs.Leads.{leads_bind, leads_split}}
 use Rattle.vs_credit.specs.Credit.{free_of}
 use Rattle.vs_flow.specs.Table.{entry_under, slots}
-use Rattle.vs_header.specs.{declared.{Header.Header, TheConstants.HEADER_LEN}, Packet.{header_bytes, header_of}}
+use Rattle.vs_header.specs.{declared.{Header.Header, TheConstants.HEADER_LEN}, Packet.{header_of}}
 use Rattle.vs_outside.specs.declared.host_net.StreamRead.{StreamRead}
 use Rattle.vs_replies.specs.declared.Reply.{Reply}
-use Rattle.vs_ring_port.specs.{Contents.{DeviceAnswer, DeviceCall, Return, RingContents, Take, Write}, Known.{Known, StopsAt}, declared.queue.Queue.{TheVariants.{Rx, Tx}, Queue}}
-use Rattle.vs_ring_port.{specs.declared.{device_ring.{Chain.Chain, Next.Next}, failure.Failure.Failure}, proofs.{Knowing.device_keeps, Stopping.{NotFewer, at_first, grown_by}}}
+use Rattle.vs_ring_port.specs.{Contents.{RingContents, Take}, Known.{Known, StopsAt}, declared.queue.Queue.{TheVariants.{Rx, Tx}, Queue}}
+use Rattle.vs_ring_port.{specs.declared.{device_ring.{Chain.Chain, Next.Next}, failure.Failure.Failure}, proofs.{Stopping.{NotFewer, at_first}}}
 use Rattle.vs_ring_port.proofs.Stopping.{stops_by}
 use Rattle.vs_limits.specs.declared.TheConstants.{DEVICE_REPLIES, OWED_MAX}
 use Rattle.vs_device_parts.specs.Receiving.{Filling, after_paying, fill_rx_of, filled_of, hold, holding, may_read, put_on, put_owed, put_packet, put_reply, put_reply_of}
 use Rattle.vs_device_parts.specs.{Receiving.{read_answered, read_room, read_stream, read_with_chain, reply_header, round_from, serve_slot, written}, Calls.{Allows, Call}}
-use Rattle.vs_device_parts.specs.{Calls.{DeviceTree, ReadStream, Ring, Situation}, Connections.{cut_off, route_to_guest, stream_closed, with_fault}, Transmitting.on_header}
+use Rattle.vs_device_parts.specs.{Calls.{DeviceTree, ReadStream, Ring, Situation}, Connections.{route_to_guest, stream_closed}, Transmitting.on_header}
 use Rattle.vs_device_parts.specs.{Transmitting.{on_next, on_packet, take_tx_of}, declared.answers.{Filled.Filled, Taken.Taken}, State.{DeviceConnection, DeviceEntry, DeviceState}}
 use Rattle.vs_device_parts.specs.{Steps.filling, Streams.{closing, leaving}, Playing.Runs}
 use Rattle.laws_device.{specs.Named.Waiting.filling_of, proofs.{Named.Keeping.{Keeps, asking, keeps_each, keeps_end, keeps_then}, Walk.Keeping.{keeps_if, keeps_some}}}
 use Rattle.laws_device.proofs.Walk.Keeping as walked
 use Rattle.vs_conn.specs.declared.end.Owed.TheVariants as owed
-use Rattle.vs_outside.specs.declared.host_net.StreamRead.TheVariants as read
 use Rattle.vs_ring_port.specs.declared.device_ring.Next.TheVariants as next
 use Rattle.vs_device_parts.specs.declared.answers.Taken.TheVariants as taken
 
@@ -38,11 +39,6 @@ module _ (queue : Queue) (a : Option Known) where
 
   abbrev Stops : Situation → Type 0
   Stops d = Relates a d.ring.known (StopsAt queue)
-
-  grown_ring : (call : DeviceCall) (answer : DeviceAnswer call) (c d : Situation) → Allows (Ring call) answer c d → Grown c → Grown d
-  grown_ring call answer c d allowed grown =
-      grown_by queue a c.ring.known d.ring.known grown
-      (device_keeps (Ask call (λ z. Done z)) answer c.ring d.ring (answer, d.ring, allowed.0, (refl, refl)))
 
   grown_same : (c d : Situation) → d.ring ≡ c.ring → Grown c → Grown d
   grown_same c d same grown = subst (λ (r : RingContents). Relates a r.known (NotFewer queue)) (sym same) grown
@@ -82,16 +78,7 @@ module _ (a : Option Known) where
 
   held_by : (answer : Next) (rs : List Reply) (r : Filling) (c d : Situation) → r.state.chain ≡ None → Allows (Ring (Take Rx)) answer c d
       → Goes rs r c → HeldWith rs (holding answer r) d (holding answer r).state.chain
-  held_by (next.Chain chain) rs r c d none allowed goes =
-      going rs (holding (next.Chain chain) r) d goes.0 (grown_ring Rx a (Take Rx) (next.Chain chain) c d allowed goes.1.0) (goes.1.2 goes.0)
-  held_by next.None rs r c d none allowed goes =
-      let q = holding next.None r in
-      let grown = grown_ring Rx a (Take Rx) next.None c d allowed goes.1.0 in
-      subst (HeldWith rs q d) (sym none) (refl, (grown, (λ over failed. (stops_ring Rx a c d allowed goes.1.0, none)), λ on. absurd cc))
-  held_by (next.Failed f) rs r c d none allowed goes =
-      let q = holding (next.Failed f) r in
-      let grown = grown_ring Rx a (Take Rx) (next.Failed f) c d allowed goes.1.0 in
-      subst (HeldWith rs q d) (sym none) (refl, (grown, (λ over failed. absurd cc), λ on. absurd cc))
+  held_by answer rs r c d none allowed goes = grind (arith, common_steps)
 
   abbrev Held : List Reply → Filling → Situation → Type 0
   Held rs q d = HeldWith rs q d q.state.chain
@@ -107,28 +94,7 @@ module _ (a : Option Known) where
   -- A packet is written.
   keeps_written : (chain : Chain) (h : Header) (payload : List ℕ) (c : Situation) → Grown Rx a c
       → Keeps CanAny Allows (λ u d. Grown Rx a d) (written chain h payload) c
-  keeps_written chain h [] c grown = (
-    tt,
-    λ x d first. (
-      tt,
-      λ y e second.
-          grown_ring Rx a (Return chain HEADER_LEN) y d e second
-          (grown_ring Rx a (Write chain 0 (header_bytes h)) x c d first grown),
-    ),
-  )
-  keeps_written chain h (byte ∷ bytes) c grown = (
-    tt,
-    λ x d first. (
-      tt,
-      λ y e second. (
-        tt,
-        λ z f third.
-            grown_ring Rx a (Return chain (HEADER_LEN + length (byte ∷ bytes))) z e f third
-            (grown_ring Rx a (Write chain HEADER_LEN (byte ∷ bytes)) y d e second
-            (grown_ring Rx a (Write chain 0 (header_bytes h)) x c d first grown)),
-      ),
-    ),
-  )
+  keeps_written chain h payload c grown = grind (arith, common_steps)
 
   keeps_put_on : (rs : List Reply) (chain : Chain) (h : Header) (payload : List ℕ) (r : Filling) (c : Situation) → Goes rs r c
       → Keeps CanAny Allows (Goes rs) (put_on chain h payload r) c
@@ -227,16 +193,7 @@ module _ (a : Option Known) where
   -- What it reads.
   keeps_read_answered : (rs : List Reply) (chain : Chain) (e : DeviceEntry) (answer : StreamRead) (payload : List ℕ) (r : Filling) (c : Situation)
       → Goes rs r c → Keeps CanAny Allows (Ends rs) (read_answered chain e answer payload r) c
-  keeps_read_answered rs chain e (read.Got n) payload r c goes =
-      keeps_then CanAny Allows (Ends rs) (Goes rs)
-      (put_on chain (payload_header e.value.end (route_to_guest r.state.cid e.flow) (length payload)) payload r) _ c
-      (keeps_put_on rs chain (payload_header e.value.end (route_to_guest r.state.cid e.flow) (length payload)) payload r c goes)
-      (λ p d went. went.1)
-  keeps_read_answered rs chain e read.Failed payload r c goes =
-      keeps_then CanAny Allows (Ends rs) (Leaves rs) (closing e cut_off (with_fault r.state)) (λ s. Done (record r { state = s })) c
-      (keeps_closing rs e cut_off (with_fault r.state) c (goes.1.0, goes.1.2 goes.0))
-      (λ s d left. (going rs (record r { state = s }) d goes.0 left.0 left.1).1)
-  keeps_read_answered rs chain e _ payload r c goes = goes.1
+  keeps_read_answered rs chain e answer payload r c goes = grind (arith, common_steps)
 
   keeps_read_with_chain : (rs : List Reply) (e : DeviceEntry) (r : Filling) (c : Situation) → Held rs r c
       → Keeps CanAny Allows (Ends rs) (read_with_chain e r) c

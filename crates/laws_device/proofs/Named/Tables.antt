@@ -1,4 +1,5 @@
 -- The streams of a table, and what a change of the table or of the host does to them.
+use Rattle.std.proofs.lemmas.Grind.{common_steps}
 use Rattle.std.proofs.Common.{◌≡◌, ◌≢◌, ℕ, ◌==◌, Bool, true, false, cond, List, Option, Some, None, Contains, ◌⊎◌, inl, inr, refl, sym, ap, subst, ◌∙◌, arith}
 use Rattle.std.{proofs.lemmas.Bool.Decides.nat_tests, specs.Option.{ForSome, option_map, option_and_then, option_or}}
 use Rattle.vs_conn.specs.declared.end.State.TheVariants.{Ended}
@@ -33,13 +34,7 @@ stream_by_entry t e found still = ap (option_and_then joined_stream) (value_by_e
 -- WHAT STANDS UNDER A SLOT AFTER A CHANGE
 value_revalued : (slot j : ℕ) (c : DeviceConnection) (o : Option DeviceEntry) → ((e : DeviceEntry) → o ≡ Some e → e.slot ≡ j)
     → value_in (option_map (revalued slot c) o) ≡ cond (j == slot) (option_map (λ d. c) (value_in o)) (value_in o)
-value_revalued slot j c None at = elim (j == slot) as (λ b. ◌≡◌ {A = Option DeviceConnection} None
-    (cond b None None)) [ true ↦ refl | false ↦ refl ]
-value_revalued slot j c (Some e) at = by (e.slot == slot) ∙ ap (λ b. cond b (Some c) (Some e.value)) (ap (λ n. n == slot) (at e refl))
-  where
-    by : (b : Bool) → Some (cond b (record e { value = c }) e).value ≡ cond b (Some c) (Some e.value)
-    by true = refl
-    by false = refl
+value_revalued slot j c o at = grind (arith, common_steps)
 
 pub value_after : (t : Table DeviceConnection) (slot j : ℕ) (c : DeviceConnection)
     → value_under (with_value t slot c) j ≡ cond (j == slot) (option_map (λ d. c) (value_under t j)) (value_under t j)
@@ -104,15 +99,7 @@ pub record IsBeside (slot j id : ℕ) (o : Option ℕ) : Type 0 where
   pub other : j ≢ slot
 
 pub beside : (slot j id : ℕ) (o : Option ℕ) → cond (j == slot) None o ≡ Some id → IsBeside slot j id o
-beside slot j id o found = by (j == slot) refl found
-  where
-    by : (b : Bool) → (j == slot) ≡ b → cond b None o ≡ Some id → IsBeside slot j id o
-    by true is found = absurd (cc)
-    by false is found = record {
-      is = found;
-      other = λ same. let differ : (slot == slot) ≡ false = subst
-          (λ n. (n == slot) ≡ false) same is in grind (arith, nat_tests, differ);
-    }
+beside slot j id o found = grind (arith, common_steps)
 
 -- CHANGES OF WHAT IS JOINED
 module _ (others : List ℕ) (t : Table DeviceConnection) (h : HostContents) where
@@ -130,14 +117,7 @@ module _ (others : List ℕ) (t : Table DeviceConnection) (h : HostContents) whe
 
   -- the host moves, and what was open stays open
   pub moved : (k : HostContents) → ((id : ℕ) → IsOpen id h → IsOpen id k) → JoinsStreams others t h → JoinsStreams others t k
-  moved k keeps joins = record {
-    table = joins.table;
-    all_open = λ j id at. keeps id (joins.all_open j id at);
-    apart = joins.apart;
-    others_differ = joins.others_differ;
-    others_open = λ id among. keeps id (joins.others_open id among);
-    others_apart = joins.others_apart;
-  }
+  moved k keeps joins = grind (arith, common_steps)
 
   -- a stream is closed that no slot has then
   pub closed_at : (u : Table DeviceConnection) (slot id : ℕ) → IsTable u → stream_under t slot ≡ Some id
@@ -269,10 +249,7 @@ module _ (others : List ℕ) (t : Table DeviceConnection) (h k : HostContents) (
 
   apart_added : JoinsStreams others t h → (i j id : ℕ) → (stream_under t i ≡ Some id) ⊎ ((t.given ≡ i) × (joined_stream c ≡ Some id))
       → (stream_under t j ≡ Some id) ⊎ ((t.given ≡ j) × (joined_stream c ≡ Some id)) → i ≡ j
-  apart_added joins i j id (inl at) (inl also) = joins.apart i j id at also
-  apart_added joins i j id (inl at) (inr new) = absurd (unjoined i (subst (λ n. stream_under t i ≡ Some n) (sym (is_stream id new.1)) at))
-  apart_added joins i j id (inr new) (inl at) = absurd (unjoined j (subst (λ n. stream_under t j ≡ Some n) (sym (is_stream id new.1)) at))
-  apart_added joins i j id (inr new) (inr also) = sym new.0 ∙ also.0
+  apart_added joins i j id h p = grind (arith, common_steps)
 
   others_added : JoinsStreams others t h → (j id : ℕ) → Contains others id
       → (stream_under t j ≡ Some id) ⊎ ((t.given ≡ j) × (joined_stream c ≡ Some id)) → ⊥
@@ -281,10 +258,7 @@ module _ (others : List ℕ) (t : Table DeviceConnection) (h k : HostContents) (
 
   over_added : AreOver t → (j : ℕ) (d : DeviceConnection) → d.closed ≡ true → (value_under t j ≡ Some d) ⊎ ((t.given ≡ j) × (c ≡ d))
       → d.end.state ≡ Ended
-  over_added over j d closed (inl there) = over j d there closed
-  over_added over j d closed (inr new) =
-      let gone : joined_stream c ≡ None = ap joined_stream new.1 ∙ rw closed refl in
-      absurd (cc)
+  over_added over j d closed h = grind (arith, common_steps)
 
   pub has_added : IsTable (with_entry t flow c) → HasStreams others t h → HasStreams others (with_entry t flow c) k
   has_added sound has = record {
@@ -305,8 +279,4 @@ some_from o P Q then held x is = then x (held x is)
 
 pub some_after : {T : Type 0} (old new : Option T) (A : T → Type 0) (f : T → T) (P Q : T → Type 0) → Exposes old new A f
     → ((x : T) → A x → P x → Q (f x)) → ForSome old P → ForSome new Q
-some_after None new A f P Q moves then held x is = let none : None ≡ Some x = sym moves ∙ is in absurd (cc)
-some_after (Some y) new A f P Q moves then held x is =
-    let same : Some (f y) ≡ Some x = sym moves.1 ∙ is in
-    let at : f y ≡ x = cc in
-    subst Q at (then y moves.0 (held y refl))
+some_after old new A f P Q moves then held x is = grind (arith, common_steps)

@@ -1,5 +1,7 @@
 -- Packets of the guest.
-use Rattle.std.{proofs.Common.{◌≡◌, ℕ, ◌+◌, Bool, true, false, cond, List, [], ◌++◌, length, Option, Some, None, IsSomeAnd, refl, sym, ap, ◌∙◌}, specs.Option.ForSome}
+use Rattle.std.proofs.Common.{arith}
+use Rattle.std.proofs.lemmas.Grind.{common_steps}
+use Rattle.std.{proofs.Common.{◌≡◌, ℕ, ◌+◌, true, false, cond, List, [], ◌++◌, length, Some, None, refl, sym, ap, ◌∙◌}, specs.Option.ForSome}
 use Rattle.laws_device.{specs.{Walk.Seen.Seen, Named.{Split.{CanReach, is_quiet}, Streams.{FindsStreams, HasStreams, joined_stream}}}, proofs.Walk.Keeping.Asking}
 use Rattle.laws_device.proofs.{Walk.{Serving.by_flow, Taking.{AfterDial, Takes}}, Named.{Tables.{has_added, has_moved, some_after}, Closing.{D, closes, stays}, Keeping.asking}}
 use Rattle.laws_device.proofs.Named.{Keeping.Keeps, Writing.finds_changed}
@@ -7,7 +9,7 @@ use Rattle.vs_conn.{specs.End.{answering, end_after}, proofs.Frames.got_over}
 use Rattle.vs_flow.{proofs.Tables.{accepted, with_entry_sound}, specs.{Table.{Table, entry_of, has_place, with_entry}, declared.flow.Flow.Flow}}
 use Rattle.vs_header.specs.declared.{Header.Header, TheConstants.HEADER_LEN}
 use Rattle.vs_limits.specs.declared.TheConstants.{BUF_ALLOC}
-use Rattle.vs_outside.specs.Host.{HostContents, IsDialed, IsOpen, Stream, after_dial, dial_answer, dialed_stream, fails_now, is_listened, stream_at}
+use Rattle.vs_outside.specs.Host.{HostContents, IsDialed, IsOpen, Stream, after_dial, dial_answer, dialed_stream, stream_at}
 use Rattle.vs_outside.{specs.declared.host_net.Dialed.Dialed, proofs.Frames.{open-dialed, open_of, stream_at-after_dial}}
 use Rattle.vs_page.specs.Log.{flow_to_host}
 use Rattle.vs_ring_port.specs.{Contents.{Read, Return, Take}, declared.{device_ring.{Chain.Chain, Next.Next}, queue.Queue.TheVariants.Tx}}
@@ -22,12 +24,7 @@ use Rattle.vs_ring_port.specs.declared.device_ring.Next.TheVariants as next
 
 -- A DIAL
 open_stream : (id : ℕ) (h : HostContents) → IsOpen id h → (s : Stream) × (stream_at id h ≡ Some s) × (s.state ≡ stream.Open)
-open_stream id h still = by (stream_at id h) refl still
-  where
-    by : (o : Option Stream) → stream_at id h ≡ o → IsSomeAnd o (λ s. s.state ≡ stream.Open)
-        → (s : Stream) × (stream_at id h ≡ Some s) × (s.state ≡ stream.Open)
-    by None is h = absurd h
-    by (Some s) is h = (s, is, h)
+open_stream id h still = grind (arith, common_steps)
 
 pub dial_keeps : (flow : Flow) (answer : Dialed) (h : HostContents) (id : ℕ) → IsOpen id h → IsOpen id (after_dial flow answer h)
 dial_keeps flow answer h id still =
@@ -35,13 +32,7 @@ dial_keeps flow answer h id still =
     open_of id (after_dial flow answer h) s.0 (stream_at-after_dial id flow answer h s.0 s.1) s.2
 
 dialed_id : (path : List ℕ) (id : ℕ) (h : HostContents) → dialed.Stream id ≡ dial_answer path h → id ≡ length h.streams + 1
-dialed_id path id h is = by (fails_now h) (is_listened path h) is
-  where
-    by : (b d : Bool) → dialed.Stream id ≡ cond b dialed.Failed (cond d (dialed.Stream (length h.streams + 1)) dialed.Refused)
-        → id ≡ length h.streams + 1
-    by true d is = absurd (cc)
-    by false true is = cc
-    by false false is = absurd (cc)
+dialed_id path id h is = grind (arith, common_steps)
 
 dial_opens : (others : List ℕ) (t : Table DeviceConnection) (flow : Flow) (header : Header) (path : List ℕ) (id : ℕ) (h : HostContents)
     → has_place t ≡ true → entry_of t flow ≡ None → dialed.Stream id ≡ dial_answer path h → HasStreams others t h

@@ -1,12 +1,13 @@
 -- What is written to the host's streams.
+use Rattle.std.proofs.lemmas.Grind.{common_steps}
 use Rattle.laws_device.proofs.{Walk.Serving.{AfterWrite, IsIn, Writes}, Named.{Closing.{D, closes, IsFound, stream_open}, Tables.{has_changed, has_moved, some_after, some_from}}}
 use Rattle.laws_device.{proofs.Named.{Tables.value_by_entry, Keeping.{asking, Keeps}, Ends.{forwarded_over, shut_over}}, specs.Named.Split.{CanReach, is_quiet}}
 use Rattle.laws_device.specs.Named.Streams.{FindsStreams, HasStreams, joined_stream}
-use Rattle.std.proofs.{Common.{◌≡◌, ◌≢◌, ℕ, ◌==◌, Bool, true, false, List, refl, sym, subst, ◌∙◌, arith}, lemmas.Bool.Decides.nat_tests}
+use Rattle.std.proofs.{Common.{◌≡◌, ℕ, true, false, List, refl, sym, ◌∙◌, arith}}
 use Rattle.vs_conn.specs.declared.end.State.TheVariants.{Ended}
 use Rattle.vs_flow.specs.Table.{with_value}
 use Rattle.vs_outside.specs.{Host.{HostContents, IsOpen, KeepsOthers, after_shut_write, after_write}, declared.host_net.StreamWrite.StreamWrite}
-use Rattle.vs_outside.proofs.Frames.{open-after_shut_write, open-after_write, others-after_shut_write, others-after_write, stays_open}
+use Rattle.vs_outside.proofs.Frames.{open-after_shut_write, open-after_write, others-after_shut_write, others-after_write}
 use Rattle.vs_device_parts.specs.{Calls.{Call, ShutWrite, Situation, WriteStream, Allows}, Connections.{after_shut, after_written, with_connection}, State.DeviceConnection}
 use Rattle.vs_device_parts.specs.{State.{DeviceEntry, DeviceState}, Streams.{Writing, is_written_out, pump_of, shut_write, to_write, write_pending}}
 use Rattle.laws_device.proofs.Walk.Serving as walked
@@ -15,12 +16,7 @@ use Rattle.vs_outside.specs.declared.host_net.StreamWrite.TheVariants as write
 -- a call on one stream keeps all open that it doesn't close
 pub all_stay : (stream : ℕ) (h k : HostContents) → KeepsOthers stream h k → (IsOpen stream h → IsOpen stream k) → (id : ℕ) → IsOpen id h
     → IsOpen id k
-all_stay stream h k others its id still = by (id == stream) refl
-  where
-    by : (b : Bool) → (id == stream) ≡ b → IsOpen id k
-    by true is = let same : id ≡ stream = grind (arith, nat_tests, is) in subst (λ n. IsOpen n k) (sym same)
-        (its (subst (λ n. IsOpen n h) same still))
-    by false is = let differ : id ≢ stream = grind (arith, nat_tests, is) in stays_open stream id h k others differ still
+all_stay stream h k others its id still = grind (arith, common_steps)
 
 -- another value of a connection, whose stream stays
 pub finds_changed : (others : List ℕ) (s : DeviceState) (c : Situation) (e : DeviceEntry) (v : DeviceConnection) → IsFound s.table e
@@ -32,11 +28,7 @@ finds_changed others s c e v found closed_as joined_as over_as has =
     (λ closed. over_as (has.over e.slot e.value (value_by_entry s.table e (found has.joins.table)) (sym closed_as ∙ closed)))) has
 
 written_out_open : (c : DeviceConnection) → is_written_out c ≡ true → c.closed ≡ false
-written_out_open c out = by c.closed refl
-  where
-    by : (b : Bool) → c.closed ≡ b → c.closed ≡ false
-    by false is = is
-    by true is = let gone = rw is at out in absurd (cc)
+written_out_open c out = grind (arith, common_steps)
 
 module _ (Can : Call → Situation → Type 0) (reaches : (call : Call) (s : Situation) → is_quiet call ≡ true → CanReach call s → Can call s)
     (others : List ℕ) where

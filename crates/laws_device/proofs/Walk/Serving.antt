@@ -1,5 +1,7 @@
 -- The device's conversations beside packets that it takes: timeouts, writes to the host's streams, its event, packets that it puts.
-use Rattle.std.proofs.Common.{◌≡◌, ℕ, ◌+◌, ◌==◌, not, Bool, true, false, cond, List, [], ◌∷◌, length, Contains, Option, Some, None, Ok, Err, refl, sym, ap, subst, ◌∙◌}
+use Rattle.std.proofs.Common.{arith}
+use Rattle.std.proofs.lemmas.Grind.{common_steps}
+use Rattle.std.proofs.Common.{◌≡◌, ℕ, ◌+◌, ◌==◌, not, Bool, true, false, cond, List, [], ◌∷◌, length, Contains, Option, Some, None, Err, refl, sym, ap, subst, ◌∙◌}
 use Rattle.byteorder.specs.Endian.{little_bytes}
 use Rattle.vs_conn.specs.{End.{owes_of, paid_of, wanting_credit, with_payload_sent}, Headers.{owed_header, payload_header}, declared.end.Owed.Owed}
 use Rattle.vs_contents.specs.CallTree.{Done, Ask, bind, for_each, while_up_to}
@@ -11,7 +13,7 @@ use Rattle.vs_outside.specs.declared.host_net.{StreamRead.StreamRead, StreamWrit
 use Rattle.vs_replies.specs.declared.Reply.{Reply}
 use Rattle.vs_ring_port.specs.{Contents.{Return, Take, Write}, declared.{queue.Queue.TheVariants.{Event, Rx}, device_ring.{Chain.Chain, Next.Next}, failure.Failure.Failure}}
 use Rattle.vs_device_parts.specs.Connections.{after_leaving, after_shut, after_written, cut_off, is_timed_out, keeping, route_to_guest, stream_closed, with_connection, with_fault}
-use Rattle.vs_device_parts.specs.Receiving.{Filling, after_paying, event_on, fill_rx_of, filled_of, hold, holding, may_read, pay_event_of, put_on, put_owed, put_packet}
+use Rattle.vs_device_parts.specs.Receiving.{Filling, after_paying, fill_rx_of, filled_of, hold, may_read, pay_event_of, put_on, put_owed, put_packet}
 use Rattle.vs_device_parts.specs.Receiving.{put_payload, put_reply, put_reply_of, read_answered, read_room, read_stream, read_with_chain, reply_header, round_from, serve_slot}
 use Rattle.vs_device_parts.specs.{Receiving.written, Streams.{Writing, closing, is_written_out, leaving, pump_of, pump_slot, shut_write, tick_of, tick_slot, to_write}}
 use Rattle.vs_device_parts.specs.{Streams.{write_answered, write_pending}, Calls.{CloseStream, DeviceTree, ReadStream, Ring, ShutWrite, WriteStream}, State.DeviceConnection}
@@ -182,24 +184,8 @@ module _ {S : Type 0} (K : Asking S) (D : Option Chain → Seen → S → Type 0
       abbrev pub First : {A : Type 0} → DeviceState × A → S → Type 0
       First x c = At x.0 c
 
-      keeps_event_on : (n : Next) (s : DeviceState) (c : S) → AfterEvent s n c → Keeps K First (event_on n s) c
-      keeps_event_on (next.Chain chain) s c after = after
-      keeps_event_on _ s c after = after
-
       pub keeps_pay_event : (s : DeviceState) (c : S) → At s c → Keeps K First (pay_event_of s) c
-      keeps_pay_event s c at = by s.failed
-        where
-          asked : Keeps K First (cond s.event_owed (Ask (Ring (Take Event)) (λ a. event_on a s)) (Done (s, Ok false))) c
-          asked = keeps_if K First s.event_owed _ _ c (λ is.
-              K.weaker (Ring (Take Event)) c (λ a d. AfterEvent s a d) (λ a d. Keeps K First (event_on a s) d)
-              (λ a d after. keeps_event_on a s d after) (filling.event s c at is)) (λ no. at)
-
-          by : (o : Option Failure) → Keeps K First (elim o [
-            | Some f ↦ Done (s, Err f)
-            | None ↦ cond s.event_owed (Ask (Ring (Take Event)) (λ a. event_on a s)) (Done (s, Ok false))
-          ]) c
-          by (Some f) = at
-          by None = asked
+      keeps_pay_event s c at = grind (arith, common_steps)
 
       abbrev pub Filled : Filling → S → Type 0
       Filled r c = At r.state c
@@ -211,18 +197,8 @@ module _ {S : Type 0} (K : Asking S) (D : Option Chain → Seen → S → Type 0
       abbrev Held : Filling → Filling → S → Type 0
       Held r q d = Filled q d × (q.state.table ≡ r.state.table)
 
-      held_by : (r : Filling) (n : Next) (d : S) → AfterTake r.state n d → Held r (holding n r) d
-      held_by r (next.Chain chain) d after = (after, refl)
-      held_by r _ d after = (after, refl)
-
       pub keeps_hold : (r : Filling) (c : S) → Filled r c → Keeps K (Held r) (hold r) c
-      keeps_hold r c at = by r.state.chain refl
-        where
-          by : (o : Option Chain) → r.state.chain ≡ o
-              → Keeps K (Held r) (elim o [ Some chain ↦ Done r | None ↦ Ask (Ring (Take Rx)) (λ a. Done (holding a r)) ]) c
-          by (Some chain) is = (at, refl)
-          by None is = K.weaker (Ring (Take Rx)) c (λ a d. AfterTake r.state a d) (λ a d. Held r (holding a r) d) (held_by r)
-              (filling.holds r.state c at is)
+      keeps_hold r c at = grind (arith, common_steps)
 
       -- A packet without payload.
       module _ (h : Header) (f : DeviceState → DeviceTree DeviceState) (r : Filling) (c : S)
@@ -291,20 +267,7 @@ module _ {S : Type 0} (K : Asking S) (D : Option Chain → Seen → S → Type 0
         keeps_put_payload : (chain : Chain) (payload : List ℕ) (r : Filling) (c : S) (n : ℕ)
             → AfterRead e chain r.state (read.Got n) payload c
             → Keeps K Filled (put_payload chain e payload r) c
-        keeps_put_payload chain payload r c n after =
-            keeps_then K Filled (λ p d. Filled (sent p) d)
-            (put_on chain (payload_header e.value.end (route_to_guest r.state.cid e.flow) (length payload)) payload r) _ c
-            (keeps_then K (λ p d. Filled (sent p) d) _
-            (written chain (payload_header e.value.end (route_to_guest r.state.cid e.flow) (length payload)) payload) _ c after
-            (λ x d kept. kept))
-            (λ p d kept. kept)
-          where
-            sent : Filling → Filling
-            sent p = record p {
-              state = record (with_connection e.slot (record e.value { end = with_payload_sent e.value.end (length payload) }) p.state)
-                  { last_put = Some e.slot };
-              read = p.read + length payload;
-            }
+        keeps_put_payload chain payload r c n after = grind (arith, common_steps)
 
         keeps_read_answered : (chain : Chain) (a : StreamRead) (payload : List ℕ) (r : Filling) (c : S) → IsIn r.state.table e
             → AfterRead e chain r.state a payload c → Keeps K Filled (read_answered chain e a payload r) c

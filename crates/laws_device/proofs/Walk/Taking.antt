@@ -1,16 +1,18 @@
 -- The packets that the device takes. U says what holds once the header of one was read, until it is heard.
-use Rattle.std.proofs.Common.{◌≡◌, ◌-◌, ◌==◌, ◌&&◌, nat_lt, nat_le, true, false, cond, [], ◌++◌, length, Option, Some, None, refl}
-use Rattle.vs_conn.specs.{End.{is_of, is_reset, verdict_of}, declared.end.Verdict.Verdict}
+use Rattle.std.proofs.Common.{arith}
+use Rattle.std.proofs.lemmas.Grind.{common_steps}
+use Rattle.std.proofs.Common.{◌≡◌, ◌-◌, nat_lt, nat_le, true, false, cond, [], ◌++◌, length, Option, Some, None, refl}
+use Rattle.vs_conn.specs.{End.{is_reset, verdict_of}, declared.end.Verdict.Verdict}
 use Rattle.vs_contents.specs.CallTree.{Done, Ask, bind}
-use Rattle.vs_flow.specs.{Flow.is_assigned, Table.{entry_of, has_place}}
-use Rattle.vs_header.specs.{Op.op_number, Packet.header_of, declared.{Header.Header, Kind.TheVariants.Stream, Op.TheVariants.Request, TheConstants.HEADER_LEN}}
+use Rattle.vs_flow.specs.{Table.{entry_of, has_place}}
+use Rattle.vs_header.specs.{Packet.header_of, declared.{Header.Header, TheConstants.HEADER_LEN}}
 use Rattle.vs_limits.specs.declared.TheConstants.{DEVICE_REPLIES}
 use Rattle.vs_outside.specs.declared.host_net.Dialed.{Dialed}
 use Rattle.vs_page.specs.{Log.{Device, flow_to_host}, Open.is_dropped}
 use Rattle.vs_ring_port.specs.{Contents.{Read, Return, Take}, declared.{device_ring.{Chain.Chain, Next.Next}, failure.Failure.Failure, queue.Queue.TheVariants.Tx}}
 use Rattle.vs_uds.specs.{OkLine.ok_text, Path.path_of}
 use Rattle.vs_wrap.specs.Wrap.{counted}
-use Rattle.vs_device_parts.specs.Transmitting.{dial_answered, failing, heard, keeps_flow, on_header, on_known, on_next, on_packet, on_unknown, take_tx_of}
+use Rattle.vs_device_parts.specs.Transmitting.{failing, heard, keeps_flow, on_header, on_known, on_next, on_packet, on_unknown, take_tx_of}
 use Rattle.vs_device_parts.specs.{Connections.{with_connection, with_dialed, with_fault}, Calls.{Dial, Ring}, State.{DeviceEntry, DeviceState}}
 use Rattle.laws_device.{proofs.Walk.{Keeping.{Asking, Keeps, keeps_if, keeps_some, keeps_then}, Serving.{Closes, by_flow, keeps_leaving}}, specs.Walk.Seen.{Seen, seen}}
 use Rattle.vs_conn.specs.declared.end.Verdict.TheVariants as verdict
@@ -68,23 +70,10 @@ module _ {S : Type 0} (K : Asking S) (D : Option Chain → Seen → S → Type 0
     abbrev Heard : {A : Type 0} → Chain → DeviceState × A → S → Type 0
     Heard chain x c = D (Some chain) (seen x.0) c
 
-    dialed_by : (chain : Chain) (h : Header) (s : DeviceState) (a : Dialed) (d : S) → AfterDial chain h s a d
-        → Heard chain (dial_answered h a s) d
-    dialed_by chain h s (dialed.Stream id) d after = after
-    dialed_by chain h s _ d after = after
-
     keeps_on_unknown : (chain : Chain) (h : Header) (s : DeviceState) (c : S) → entry_of s.table (flow_to_host h) ≡ None
         → U chain h (seen s) c
         → Keeps K (Heard chain) (on_unknown h s) c
-    keeps_on_unknown chain h s c none at =
-        let ignored = taking.ignores chain h s c at in
-        keeps_if K (Heard chain) (is_reset h) _ _ c (λ reset. ignored) (λ other.
-        keeps_if K (Heard chain) (is_of Stream h && (h.op == op_number Request)) _ _ c (λ asks.
-        keeps_if K (Heard chain) (is_assigned h.dst_port) _ _ c (λ mine. ignored) (λ free.
-        keeps_if K (Heard chain) (has_place s.table) _ _ c (λ place.
-        K.weaker (Dial (path_of s.base h.dst_port) (flow_to_host h)) c (λ a d. AfterDial chain h s a d)
-        (λ a d. Heard chain (dial_answered h a s) d) (dialed_by chain h s) (taking.dials chain h s c none place at)) (λ full. ignored)))
-        (λ not_asked. ignored))
+    keeps_on_unknown chain h s c none at = grind (arith, common_steps)
 
     keeps_on_known : (chain : Chain) (h : Header) (e : DeviceEntry) (s : DeviceState) (c : S) → entry_of s.table (flow_to_host h) ≡ Some e
         → U chain h (seen s) c → (v : Verdict) → verdict_of e.value.end h ≡ v

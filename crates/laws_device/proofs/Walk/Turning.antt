@@ -1,16 +1,16 @@
 -- Handshakes and turns.
-use Rattle.std.proofs.Common.{◌≡◌, ℕ, ◌+◌, ◌==◌, nat_lt, Bool, true, false, cond, List, [], ◌∷◌, ◌++◌, length, find, Option, Some, None, Result, Ok, Err, refl, sym, subst, arith}
+use Rattle.std.proofs.lemmas.Grind.{common_steps}
+use Rattle.std.proofs.Common.{◌≡◌, ℕ, ◌+◌, ◌==◌, Bool, true, false, cond, List, [], ◌∷◌, ◌++◌, find, Option, Some, None, Result, Ok, Err, refl, sym, subst, arith}
 use Rattle.std.proofs.lemmas.Bool.Decides.{nat_tests}
 use Rattle.vs_contents.specs.CallTree.{Done, Ask}
 use Rattle.vs_flow.{proofs.Entries.found_passes, specs.{Table.refusal, declared.{flow.Flow.Flow, table.TableFault.TableFault}}}
-use Rattle.vs_limits.specs.declared.TheConstants.{HANDSHAKES}
 use Rattle.vs_outside.specs.declared.host_net.{Accepted.Accepted, StreamRead.StreamRead}
 use Rattle.vs_header.specs.declared.Header.{Header}
 use Rattle.vs_ring_port.specs.declared.{device_ring.Chain.Chain, failure.Failure.Failure}
 use Rattle.vs_uds.specs.{ConnectLine.connect_step, declared.{connect.TheConstants.CONNECT_MAX, scan.Step.Step}}
 use Rattle.vs_device_parts.specs.{Calls.{Accept, CloseStream, DeviceTree, Label, ReadStream}, Connections.{is_late, with_client, with_fault}, declared.answers.Filled.Filled}
 use Rattle.vs_device_parts.specs.{Receiving.{fill_rx_of, pay_event_of}, State.DeviceState, Streams.{pump_of, tick_of}, Transmitting.take_tx_of, Turns.open_of}
-use Rattle.vs_proxy_parts.specs.Handshakes.{accept_answered, accept_one, byte_read, dropping, handshake_on, host_fault, line_decided, next_after, next_flow, opening, read_byte}
+use Rattle.vs_proxy_parts.specs.Handshakes.{accept_one, byte_read, dropping, handshake_on, host_fault, line_decided, next_after, next_flow, opening, read_byte}
 use Rattle.vs_proxy_parts.specs.{Handshakes.{read_line, shake_hands, streams_of, tick_handshake, tick_handshakes, with_line, without_stream}, Turns.{device_after, event_stage}}
 use Rattle.vs_proxy_parts.specs.{Turns.{fill_stage, filled, pump_stage, take_one, take_stage, tick_stage, took_packet, turn_of, unless_failed}, State.{Handshake, ProxyState}}
 use Rattle.vs_proxy_parts.specs.State.{Turning, start}
@@ -88,15 +88,8 @@ module _ {S : Type 0} (K : Asking S) (At : List Handshake → ℕ → DeviceStat
     keeps_tick_handshakes t c at = keeps_each K Turns tick_handshake keeps_tick_handshake (streams_of t.state) t c at
 
     -- A client is accepted.
-    accepted_by : (t : Turning) (a : Accepted) (d : S) → AfterAccept t.state.handshakes t.state.next_port t.state.device a d → Turns (accept_answered a t) d
-    accepted_by t (accepted.Stream id) d after = after
-    accepted_by t _ d after = after
-
     pub keeps_accept_one : (t : Turning) (c : S) → Turns t c → Keeps K Turns (accept_one t) c
-    keeps_accept_one t c at =
-        keeps_if K Turns (nat_lt (length t.state.handshakes) HANDSHAKES) _ _ c (λ room.
-        K.weaker Accept c (λ a d. AfterAccept t.state.handshakes t.state.next_port t.state.device a d) (λ a d. Turns (accept_answered a t) d) (accepted_by t)
-        (shakes.accepts t.state.handshakes t.state.next_port t.state.device c at)) (λ full. at)
+    keeps_accept_one t c at = grind (arith, common_steps)
 
     -- A byte of a line is read.
     module _ (h : Handshake) (t : Turning) where
@@ -155,11 +148,7 @@ module _ {S : Type 0} (K : Asking S) (At : List Handshake → ℕ → DeviceStat
   pub keeps_unless : (stage : Turning → DeviceTree Turning) → ((t : Turning) (c : S) → Turns t c → Keeps K Turns (stage t) c)
       → (t : Turning) (c : S)
       → Turns t c → Keeps K Turns (unless_failed stage t) c
-  keeps_unless stage keeps t c at = by t.state.device.failed
-    where
-      by : (o : Option Failure) → Keeps K Turns (elim o [ Some f ↦ Done t | None ↦ stage t ]) c
-      by (Some f) = at
-      by None = keeps t c at
+  keeps_unless stage keeps t c at = grind (arith, common_steps)
 
   pub keeps_tick_stage : Shakes → (now : ℕ) → KeptBy (tick_of now) (λ s. s) → (t : Turning) (c : S) → Turns t c
       → Keeps K Turns (tick_stage now t) c
