@@ -1,23 +1,22 @@
 -- What each call of the driver keeps over an honest ring.
-use Rattle.std.proofs.Common.{◌≡◌, ℕ, ◌+◌, ◌<◌, ◌≤◌, ◌^◌, ◌==◌, Bool, true, false, cond, min, List, [], ◌∷◌, length, take, Option, Some, None, Result, Ok, Err, refl, sym, ap}
-use Rattle.std.{proofs.{Common.{subst, ◌∙◌, ◌&&◌, arith, length-take}, lemmas.{Bool.Decides.nat_tests, Grind.common_steps}}, specs.Prelude.IsOkAnd}
-use Rattle.vs_contents.specs.CallTree.{Done, Ask, bind}
+use Rattle.std.proofs.Common.{◌≡◌, ℕ, ◌<◌, ◌≤◌, ◌^◌, ◌==◌, Bool, true, false, cond, min, List, [], ◌∷◌, length, take, Option, Some, None, Result, Ok, Err, refl, sym, ap}
+use Rattle.std.proofs.{Common.{subst, ◌&&◌, arith}, lemmas.{Bool.Decides.nat_tests, Grind.common_steps}}
+use Rattle.vs_contents.specs.CallTree.{Done, bind}
 use Rattle.vs_conn.specs.{End.{CanSend, may_send_of, wanting_credit, with_payload_sent}, declared.end.Stop.Stop}
 use Rattle.vs_flow.specs.Table.{IsTable}
 use Rattle.vs_header.specs.declared.Kind.TheVariants.{Stream}
 use Rattle.vs_page.specs.{Log.{Driver, Log}, Fair.IsFairLog, declared.{log.LogEntry.TheVariants.PutPacket, page.TheConstants.PAYLOAD_MAX}}
-use Rattle.vs_ring_port.specs.{declared.queue.Queue.{TheVariants.{Rx, Tx, Event}, Queue}, Contents.RingContents, EndLog.{EndLog, entries_marked, log_loaded, log_published}}
-use Rattle.vs_ring_port.specs.{EndLog.log_staged, DriverCalls.Publish}
+use Rattle.vs_ring_port.specs.{declared.queue.Queue.{TheVariants.{Rx, Tx, Event}, Queue}, Contents.RingContents, EndLog.{EndLog, entries_marked, log_loaded}}
 use Rattle.laws_tables.{specs.{Matches.Matches, Steps.{payload_on, request_on}}, proofs.Keeps.start_matches}
 use Rattle.vs_driver_parts.specs.Conversations.{DriverTree, connect_to, connect_with_page, has_page, load_cid, new_of, new_state, no_credit, not_sent, one_more_in_flight}
 use Rattle.vs_driver_parts.specs.Conversations.{payload_bytes, payload_of, poll_of, post_all, post_events, post_one, post_packet, posts, publish_of, reap_all, request_bytes}
 use Rattle.vs_driver_parts.specs.{Conversations.{send_of, send_stopped, send_with_page, stage_of}, Connections.{connect_refusal, connected, next_flow}}
 use Rattle.vs_driver_parts.specs.{declared.answers.{ConnectError.ConnectError, Polled.Polled, Sent.Sent}, Playing.{MayPublishAll, Plays}, State.{DriverEntry, DriverState}}
 use Rattle.vs_driver_parts.{specs.{State.entry_known_as, Steps.sends}, proofs.Clean.none_clean}
-use Rattle.vs_limits.specs.declared.TheConstants.{HOST_CID, LAST_PORT, STAGED_MAX}
+use Rattle.vs_limits.specs.declared.TheConstants.{HOST_CID, LAST_PORT}
 use Rattle.laws_driver.{specs.{Honest.{AgreesWith, IsFitState, IsFresh, IsHonestWith, ends_of_state}, Staged.IsLeft}, proofs.Polling.{not_tx_event, not_tx_rx, poll_keeps}}
 use Rattle.laws_driver.proofs.{Changing.{Changes, stands_known, wanting_changes}, Keeping.{Keeps, keeps_bind, keeps_end, keeps_may, keeps_weaker, keeps_while}, Ringing.IsAtRest}
-use Rattle.laws_driver.proofs.{Ringing.{Tells, agrees, at_rest, can_publish_other, moves, tells_weaker, can_stage_other}, Carrying.{Fact, Holds, RestsWith, carries_nothing}}
+use Rattle.laws_driver.proofs.{Ringing.{Tells, agrees, at_rest, moves, tells_weaker}, Carrying.{Fact, Holds, RestsWith, carries_nothing}}
 use Rattle.laws_driver.proofs.{Carrying.nothing, Staging.{Rests, SameBut, post_tx, reap_keeps}, Putting.{connect_puts, send_puts}, Tabling.{Stands, fits_weaker}}
 use Rattle.vs_driver_parts.specs.declared.answers.ConnectError.TheVariants as refused
 use Rattle.vs_driver_parts.specs.declared.answers.Sent.TheVariants as sent
@@ -31,16 +30,7 @@ honest_of hosts first fact s c rests = tells_weaker (RestsWith hosts first fact 
 
 -- A step that puts and gets nothing.
 pub changed : (hosts : Bool) (first : ℕ) (s t : DriverState) (l : EndLog) → Changes hosts s t → IsAtRest hosts first s l → IsAtRest hosts first t l
-changed hosts first s t l step rest = (
-  step.fits,
-  record {
-    none_refused = λ all. step.broken ∙ rest.1.none_refused all;
-    matches = step.matches first l.entries rest.1.matches;
-    fair = rest.1.fair;
-    marks = rest.1.marks;
-  },
-  rest.2,
-)
+changed hosts first s t l step rest = grind (arith, common_steps)
 
 -- It carries one fact to another.
 pub changed_rests : (hosts : Bool) (first : ℕ) (before after : Fact) (s t : DriverState) (c : RingContents) → (IsFitState hosts s → Changes hosts s t)
@@ -77,20 +67,10 @@ pub record CarriesSend (hosts : Bool) (first id : ℕ) (bytes : List ℕ) (befor
       → Holds (after (sent.Took (length payload))) (connections.with_end (with_payload_sent e.value.end (length payload)) e s) (PutPacket p ∷ log)
 
 pub connect_nothing : (hosts : Bool) (first peer to : ℕ) → CarriesConnect hosts first peer to nothing (λ answer. nothing)
-connect_nothing hosts first peer to = record {
-  refused = λ why s log held. tt;
-  opens = λ s log fits free m was fair held. tt;
-}
+connect_nothing hosts first peer to = grind (arith, common_steps)
 
 pub send_nothing : (hosts : Bool) (first id : ℕ) (bytes : List ℕ) → CarriesSend hosts first id bytes nothing (λ answer. nothing)
-send_nothing hosts first id bytes = record {
-  stopped = λ why s log held. tt;
-  unknown = λ s log none held. tt;
-  empty = λ s log held. tt;
-  full = λ n s log held. tt;
-  wants = λ e s log fits stands m held. tt;
-  sends = λ e n s log fits stands known can few m was fair held. tt;
-}
+send_nothing hosts first id bytes = grind (arith, common_steps)
 
 -- A fact goes over to another, and nothing else changes.
 goes_over : (hosts : Bool) (first : ℕ) (before after : Fact) (s : DriverState) (c : RingContents)
@@ -100,11 +80,7 @@ goes_over hosts first before after s c go rests =
 
 can_send : (e : DriverEntry) (credit : ℕ) (bytes : List ℕ) → may_send_of e.value.end ≡ Ok credit
     → CanSend e.value.end (length (payload_of credit bytes)) × (length (payload_of credit bytes) ≤ PAYLOAD_MAX)
-can_send e credit bytes is =
-    let short = length-take (min credit PAYLOAD_MAX) bytes in
-    let n : ℕ = length (payload_of credit bytes) in
-    let least : n ≤ credit = omega (arith, short) in
-    (subst (λ (r : Result ℕ Stop). IsOkAnd r (λ free. n ≤ free)) (sym is) least, omega (arith, short))
+can_send e credit bytes is = grind (arith, common_steps)
 
 -- connect.
 module _ (hosts : Bool) (first peer to : ℕ) (before : Fact) (after : Result ℕ ConnectError → Fact) (steps : CarriesConnect hosts first peer to before after)
@@ -272,35 +248,12 @@ module _ (size port id : ℕ) (port_fits : port ≤ LAST_PORT) where
   abbrev IsMade : DriverState → RingContents → Type 0
   IsMade s c = (s ≡ record made { staged = s.staged }) × Tells Fresh c
 
-  fresh_staged : (queue : Queue) → (queue ≡ Tx → ⊥) → (l : EndLog) → Fresh l → Fresh (log_staged queue [] l)
-  fresh_staged Tx other l fresh = absurd (other refl)
-  fresh_staged x other l fresh = fresh
-
-  fresh_published : (queue : Queue) → (queue ≡ Tx → ⊥) → (l : EndLog) → Fresh l → Fresh (log_published queue l)
-  fresh_published Tx other l fresh = absurd (other refl)
-  fresh_published x other l fresh = fresh
-
   module _ (queue : Queue) (other : queue ≡ Tx → ⊥) where
     publish_made : (s : DriverState) (c : RingContents) → IsMade s c → Keeps IsMade (publish_of queue s) c
-    publish_made s c is = (
-      can_publish_other queue c other,
-      λ a d call. (
-        ap (λ (x : DriverState). let y : DriverState = record x { staged = 0 } in y) is.0,
-        moves _ _ _ _ _ (log_published queue) c d call.1 Fresh Fresh (λ l fresh fair. fresh_published queue other l fresh) is.1,
-      ),
-    )
-
-    staged_by : (b : Bool) (s : DriverState) (c : RingContents) → IsMade s c
-        → Keeps IsMade (cond b (Ask (Publish queue) (λ _. Done (record s { staged = 0 }))) (Done (record s { staged = s.staged + 1 }))) c
-    staged_by true s c is = publish_made s c is
-    staged_by false s c is = (ap (λ (x : DriverState). let y : DriverState = record x { staged = s.staged + 1 } in y) is.0, is.1)
+    publish_made s c is = grind (arith, common_steps)
 
     stage_made : (s : DriverState) (c : RingContents) → IsMade s c → Keeps IsMade (stage_of queue [] s) c
-    stage_made s c is = (
-      can_stage_other queue [] c other,
-      λ a d call. staged_by (s.staged + 1 == STAGED_MAX) s d
-          (is.0, moves _ _ _ _ _ (log_staged queue []) c d call Fresh Fresh (λ l fresh fair. fresh_staged queue other l fresh) is.1),
-    )
+    stage_made s c is = grind (arith, common_steps)
 
     post_one_made : (s : DriverState) (c : RingContents) → IsMade s c → Keeps (λ r d. IsMade r.0 d) (post_one queue s) c
     post_one_made s c is = keeps_bind (λ (r : DriverState × Bool) d. IsMade r.0 d) (stage_of queue [] s) (λ t. Done (t, true)) c (stage_made s c is)
@@ -312,13 +265,7 @@ module _ (size port id : ℕ) (port_fits : port ≤ LAST_PORT) where
         (keeps_while IsMade (post_one queue) post_one_made s.size s c is))
 
   empty_table : IsTable made.table
-  empty_table = record {
-    within = omega arith;
-    rising = λ i j d less within. absurd (omega (arith, within));
-    distinct = λ i j d less within. absurd (omega (arith, within));
-    were_given = λ i d within. absurd (omega (arith, within));
-    slots_left = omega arith;
-  }
+  empty_table = grind (arith, common_steps)
 
   pub made_fits : (cid : ℕ) → cid < 2 ^ 64 → IsFitState true (record made { cid = cid })
   made_fits cid less = record {

@@ -1,6 +1,6 @@
 -- What a walk over the driver's conversations carries besides: a fact of the driver, apart from pages of its own in flight, and of its log,
 -- with the packets that are staged.
-use Rattle.std.proofs.Common.{◌≡◌, ℕ, ◌<◌, ◌^◌, List, ◌∷◌, Option, Some, None, refl, sym, subst, Bool}
+use Rattle.std.proofs.{Common.{◌≡◌, ℕ, ◌<◌, ◌^◌, List, ◌∷◌, Option, Some, None, refl, sym, subst, Bool, arith}, lemmas.Grind.common_steps}
 use Rattle.vs_conn.specs.{End.owes_of, declared.end.Owed.Owed}
 use Rattle.laws_history.specs.declared.packet.Packet.{Packet}
 use Rattle.vs_page.specs.{declared.log.LogEntry.TheVariants.{GotEvent, GotPacket, Mark, PutPacket}, Fair.IsFairLog, Held.IsWhole, Log.{Driver, Log}}
@@ -8,7 +8,7 @@ use Rattle.vs_replies.specs.declared.Reply.{Reply}
 use Rattle.vs_ring_port.specs.{EndLog.{EndLog, all_put, log_published, log_reaped, log_staged}, declared.queue.Queue.{Queue, TheVariants.Tx}}
 use Rattle.laws_tables.specs.{Ends.Ends, Matches.Matches, Steps.{owed_on, reply_on}}
 use Rattle.vs_driver_parts.specs.{Receiving.{after_reset, on_packet}, Conversations.after_paying, Playing.FitsPorts, State.{DriverEntry, DriverState}}
-use Rattle.laws_driver.{proofs.{Ringing.{IsAtRest, Puts, publishes, put_last, stages, tied}, Tabling.Stands}, specs.{Honest.{IsFitState, ends_of_state}, Staged.IsTied}}
+use Rattle.laws_driver.{proofs.{Ringing.{IsAtRest, Puts, put_last, stages}, Tabling.Stands}, specs.{Honest.{IsFitState, ends_of_state}, Staged.IsTied}}
 
 abbrev pub Fact : Type 1
 Fact = Ends → DriverState → Log → Type 0
@@ -35,12 +35,7 @@ pub record PutsWith (hosts : Bool) (first : ℕ) (before after : Fact) (p : Pack
 
 module _ (hosts : Bool) (first : ℕ) (fact : Fact) where
   pub rest_tied : (s : DriverState) (l : EndLog) → RestsWith hosts first fact s l → IsTiedBy hosts first fact s l
-  rest_tied s l rest =
-      let P : List (List ℕ) → Type 0 = λ pages. Holds fact s (all_put pages l.entries) in
-      (tied hosts first s l rest.0, subst P (sym rest.0.2) rest.1)
-
-  pub published_rest : (s : DriverState) (l : EndLog) → IsTiedBy hosts first fact s l → RestsWith hosts first fact s (log_published Tx l)
-  published_rest s l tie = (publishes hosts first s l tie.0, tie.1)
+  rest_tied s l rest = grind (arith, common_steps)
 
   pub published_other : (queue : Queue) → (queue ≡ Tx → ⊥) → (s : DriverState) (l : EndLog) → RestsWith hosts first fact s l
       → RestsWith hosts first fact s (log_published queue l)
@@ -83,10 +78,4 @@ pub record Carries (hosts : Bool) (first : ℕ) (fact : Fact) : Type 0 where
       → Holds fact (after_reset cid s) (Mark cid ∷ log)
 
 pub carries_nothing : (hosts : Bool) (first : ℕ) → Carries hosts first nothing
-carries_nothing hosts first = record {
-  owed = λ what e s log fits stands owes m was fair held. tt;
-  reply = λ r rest s log fits is m fair held. tt;
-  got = λ p s log fits ports whole m was fair held. tt;
-  event = λ id s log held. tt;
-  reset = λ cid s log less fits held. tt;
-}
+carries_nothing hosts first = grind (arith, common_steps)

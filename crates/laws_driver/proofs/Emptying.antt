@@ -1,10 +1,11 @@
 -- The step that takes the event page of a transport reset: whatever a ring answers besides, the driver's table is empty then.
-use Rattle.std.{proofs.Common.{◌≡◌, ℕ, ◌+◌, ◌==◌, not, nat_lt, Bool, true, false, cond, List, [], ◌∷◌, length, Option, Some, refl, ap, subst, ◌∙◌}, specs.List.filter}
+use Rattle.std.proofs.{Common.arith, lemmas.Grind.common_steps}
+use Rattle.std.{proofs.Common.{◌≡◌, ℕ, ◌==◌, not, nat_lt, Bool, true, false, cond, List, [], ◌∷◌, length, Option, Some, refl, ap, subst, ◌∙◌}, specs.List.filter}
 use Rattle.vs_contents.{specs.CallTree.{Ask, Done, Leads, bind}, proofs.Leads.{AllEnds, end_of}}
 use Rattle.vs_flow.{specs.{CleanPairs.of_host, Table.{IsRising, IsTable}}, proofs.Entries.rising_tail}
 use Rattle.vs_limits.specs.declared.TheConstants.{DRIVER_REPLIES_FULL}
-use Rattle.vs_ring_port.specs.{DriverCalls.{DriverAnswer, DriverCall, LoadCid, Publish, Reap}, declared.queue.Queue.TheVariants.Event}
-use Rattle.vs_driver_parts.specs.{Conversations.{DriverTree, Round, event_reaped, goes_on_with, staged_again, start}, Connections.after_leaving, State.{DriverEntry, DriverState}}
+use Rattle.vs_ring_port.specs.{DriverCalls.{DriverAnswer, DriverCall, LoadCid, Reap}, declared.queue.Queue.TheVariants.Event}
+use Rattle.vs_driver_parts.specs.{Conversations.{DriverTree, Round, event_reaped, staged_again, start}, Connections.after_leaving, State.{DriverEntry, DriverState}}
 use Rattle.vs_driver_parts.{specs.{Steps.takes_page, Receiving.{after_reset, all_left, is_reset_event, reset_reply, with_reply}}, proofs.Packets.others_left}
 
 abbrev IsEmpty : DriverState → Type 0
@@ -18,12 +19,7 @@ none_left (e ∷ es) s is rising =
 
 -- The page is staged again.
 staged : (r : Round) → IsEmpty r.state → AllEnds IsEmpty (bind (staged_again Event r) (λ r. Done r.0.state))
-staged r none = λ a. by (r.state.staged + 1 == 16)
-  where
-    by : (b : Bool) → AllEnds IsEmpty (bind (bind (cond b (Ask (Publish Event) (λ _. Done (record r.state { staged = 0 })))
-        (Done (record r.state { staged = r.state.staged + 1 }))) (goes_on_with r)) (λ r. Done r.0.state))
-    by true = λ a. none
-    by false = none
+staged r none = grind (arith, common_steps)
 
 abbrev taking : DriverState → Option (List ℕ) → DriverTree DriverState
 taking s page = bind (event_reaped (start s) page) (λ r. Done r.0.state)

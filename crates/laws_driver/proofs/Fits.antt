@@ -1,11 +1,11 @@
 -- The buffer of a connection holds what its end counts as unread, whatever the end does.
-use Rattle.std.proofs.Common.{◌≡◌, ℕ, ◌+◌, ◌≤◌, Bool, true, false, cond, min, List, [], ◌++◌, length, drop, refl, subst, arith, length-append, length-drop, eq-eqb}
-use Rattle.vs_credit.specs.{Credit.unread_of, declared.Credit.Credit}
+use Rattle.std.proofs.{Common.{◌≡◌, ℕ, ◌+◌, ◌≤◌, List, ◌++◌, length, refl, subst, arith, length-append, eq-eqb}, lemmas.Grind.common_steps}
+use Rattle.vs_credit.specs.declared.Credit.{Credit}
 use Rattle.vs_limits.specs.declared.TheConstants.{BUF_ALLOC_MAX}
 use Rattle.laws_history.specs.declared.packet.Packet.{Packet}
 use Rattle.vs_page.specs.Held.{IsWhole}
-use Rattle.vs_conn.specs.{declared.end.{Owed.Owed, State.State, Verdict.Verdict}, End.{end_after, grown, verdict_of, with_payload_sent, with_shut}}
-use Rattle.laws_tables.{specs.Drains.delivered, proofs.Unread.{Counts, Moves, forwards, hears, shuts, still}}
+use Rattle.vs_conn.specs.{declared.end.{Owed.Owed, State.State, Verdict.Verdict}, End.{end_after, grown, verdict_of, with_payload_sent}}
+use Rattle.laws_tables.{specs.Drains.delivered, proofs.Unread.{Counts, Moves, hears, still}}
 use Rattle.vs_driver_parts.specs.{Room.HasRoom, State.DriverConnection, Receiving.after_packet, Connections.{after_read, after_shut, after_closing, paid_connection}}
 use Rattle.vs_driver_parts.proofs.Delivers.{delivers, named_rw}
 use Rattle.vs_conn.specs.declared.end.Owed.TheVariants as owed
@@ -24,15 +24,7 @@ counts c bytes room = record { within = omega (arith, room.unread, room.fits); a
 
 -- As many bytes come and go as the end counts.
 moved : (more less : ℕ) (c d : Credit) (bytes kept : List ℕ) → Holds c bytes → Moves more less c d → length kept + less ≡ length bytes + more → Holds d kept
-moved more less c d bytes kept room m long = record {
-  unread = omega (arith, room.unread, m.unread, long);
-  fits = omega (arith, room.unread, m.unread, long, m.counts.within);
-  space = m.counts.alloc;
-  least = room.least;
-  alloc = omega (arith, m.counts.alloc);
-  rx_cnt = m.counts.rx;
-  fwd_cnt = m.counts.fwd;
-}
+moved more less c d bytes kept room m long = grind (arith, common_steps)
 
 -- What came in and was forwarded is the same.
 pub holds_same : (c d : Credit) (bytes : List ℕ) → Holds c bytes → d.alloc ≡ c.alloc → d.rx_cnt ≡ c.rx_cnt → d.fwd_cnt ≡ c.fwd_cnt → Holds d bytes
@@ -62,30 +54,14 @@ pub sent_fits : (n : ℕ) (c : DriverConnection) → IsHeldBy c → Holds (with_
 sent_fits n c room = holds_same c.end.credit _ c.unread room refl refl refl
 
 pub read_fits : (n : ℕ) (c : DriverConnection) → IsHeldBy c → IsHeldBy (after_read n c)
-read_fits n c room =
-    let long = length-drop n c.unread in
-    let least : min n (length c.unread) ≤ length c.unread = omega arith in
-    moved 0 (min n (length c.unread)) c.end.credit _ c.unread (drop n c.unread) room
-    (forwards c.end.credit (min n (length c.unread)) (counts c.end.credit c.unread room) (omega (arith, room.unread, least))) (omega (arith, long))
+read_fits n c room = grind (arith, common_steps)
 
 pub grow_fits : (alloc : ℕ) (c : DriverConnection) → IsHeldBy c → c.end.credit.alloc ≤ alloc → alloc ≤ BUF_ALLOC_MAX
     → Holds (grown c.end alloc).credit c.unread
-grow_fits alloc c room rises most = record {
-  unread = room.unread;
-  fits = omega (arith, room.fits, rises);
-  space = most;
-  least = room.least;
-  alloc = omega (arith, most);
-  rx_cnt = room.rx_cnt;
-  fwd_cnt = room.fwd_cnt;
-}
+grow_fits alloc c room rises most = grind (arith, common_steps)
 
 pub shut_fits : (bits : ℕ) (c : DriverConnection) → IsHeldBy c → IsHeldBy (after_shut bits c)
-shut_fits bits c room = by (with_shut c.end bits).own.receive (shuts c.end bits (counts c.end.credit c.unread room))
-  where
-    by : (b : Bool) → Moves 0 (cond b (unread_of c.end.credit) 0) c.end.credit (with_shut c.end bits).credit → Holds (with_shut c.end bits).credit (cond b [] c.unread)
-    by true m = moved 0 _ c.end.credit _ c.unread [] room m (omega (arith, room.unread))
-    by false m = moved 0 0 c.end.credit _ c.unread c.unread room m (omega arith)
+shut_fits bits c room = grind (arith, common_steps)
 
 pub closing_fits : (s : State) (c : DriverConnection) → IsHeldBy c → IsHeldBy (after_closing s c)
 closing_fits state.Live c room = shut_fits 3 c room

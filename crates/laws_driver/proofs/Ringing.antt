@@ -1,6 +1,6 @@
 -- What one call on an honest ring that tells its log keeps.
-use Rattle.std.{proofs.Common.{◌≡◌, ℕ, true, List, [], ◌∷◌, ◌++◌, Option, Some, None, refl, sym, ap, subst, ◌∙◌, Bool}, specs.{Prelude.IsSomeAnd, Option.ForSome}}
-use Rattle.vs_contents.specs.Contents.{Exposes}
+use Rattle.std.proofs.{Common.arith, lemmas.Grind.common_steps}
+use Rattle.std.{proofs.Common.{◌≡◌, ℕ, true, List, [], ◌∷◌, ◌++◌, Option, Some, refl, sym, ap, subst, ◌∙◌, Bool}, specs.{Prelude.IsSomeAnd, Option.ForSome}}
 use Rattle.laws_history.specs.{declared.packet.Packet.Packet, Packets.packet_bytes}
 use Rattle.vs_page.specs.{Fair.IsFairLog, Held.{FitsWire, packet_held}, Log.{Driver, Log}, declared.log.LogEntry.TheVariants.PutPacket}
 use Rattle.vs_ring_port.specs.{EndLog.{EndLog, all_put, log_published, log_staged, with_packet}, DriverCalls.{CanPublish, CanStage, DriverAnswer, DriverCall, DriverMoves}}
@@ -18,26 +18,13 @@ abbrev pub IsAtRest : Bool → ℕ → DriverState → EndLog → Type 0
 IsAtRest hosts first s l = IsFitState hosts s × IsLeft hosts first s.broken (ends_of_state s) [] l.entries × (l.staged.tx ≡ [])
 
 pub at_rest : (hosts : Bool) (first : ℕ) (s : DriverState) (l : EndLog) → AgreesWith hosts first s l → IsAtRest hosts first s l
-at_rest hosts first s l agrees = (
-  agrees.fits,
-  record { none_refused = agrees.none_refused; matches = agrees.matches; fair = agrees.fair; marks = agrees.marks },
-  agrees.published,
-)
+at_rest hosts first s l agrees = grind (arith, common_steps)
 
 pub agrees : (hosts : Bool) (first : ℕ) (s : DriverState) (l : EndLog) → IsAtRest hosts first s l → AgreesWith hosts first s l
-agrees hosts first s l rest = record {
-  fits = rest.0;
-  published = rest.2;
-  none_refused = rest.1.none_refused;
-  matches = rest.1.matches;
-  fair = rest.1.fair;
-  marks = rest.1.marks;
-}
+agrees hosts first s l rest = grind (arith, common_steps)
 
 pub tied : (hosts : Bool) (first : ℕ) (s : DriverState) (l : EndLog) → IsAtRest hosts first s l → IsTied hosts first s l
-tied hosts first s l rest =
-    let P : List (List ℕ) → Type 0 = λ pages. IsLeft hosts first s.broken (ends_of_state s) pages l.entries in
-    (rest.0, subst P (sym rest.2) rest.1)
+tied hosts first s l rest = grind (arith, common_steps)
 
 pub tells_weaker : (P Q : EndLog → Type 0) → ((l : EndLog) → P l → Q l) → (c : RingContents) → Tells P c → Tells Q c
 tells_weaker P Q then c tells = λ honest l is. then l (tells honest l is)
@@ -45,15 +32,7 @@ tells_weaker P Q then c tells = λ honest l is. then l (tells honest l is)
 -- A call changes the log by g: what follows of each log that is fair after it, it tells.
 pub moves : (call : DriverCall) (a : DriverAnswer call) (L : Rings → Type 0) (f : Rings → Rings) (R : EndLog → Type 0) (g : EndLog → EndLog) (c d : RingContents) → DriverMoves call a L f R g c d
     → (P Q : EndLog → Type 0) → ((l : EndLog) → P l → IsFairLog Driver (g l).entries → Q (g l)) → Tells P c → Tells Q d
-moves call a L f R g c d made P Q then tells = λ honest l is. by c.log refl made.log honest l is
-  where
-    by : (o : Option EndLog) → c.log ≡ o → Exposes o d.log R g → d.honest ≡ true → (l : EndLog) → d.log ≡ Some l → Q l
-    by None log exposes honest l is = let e : None ≡ Some l = sym exposes ∙ is in absurd cc
-    by (Some before) log exposes honest l is =
-        let e : Some (g before) ≡ Some l = sym exposes.1 ∙ is in
-        let same : g before ≡ l = cc in
-        let fair : IsFairLog Driver (g before).entries = made.fair honest (g before) exposes.1 in
-        subst Q same (then before (tells (sym made.honest ∙ honest) before log) fair)
+moves call a L f R g c d made P Q then tells = grind (arith, common_steps)
 
 pub can_publish_other : (queue : Queue) (c : RingContents) → (queue ≡ Tx → ⊥) → CanPublish queue c
 can_publish_other Tx c other = absurd (other refl)
@@ -61,11 +40,7 @@ can_publish_other x c other = λ honest l is. tt
 
 -- Staged packets may be published, and nothing is staged then.
 pub publishes : (hosts : Bool) (first : ℕ) (s : DriverState) (l : EndLog) → IsTied hosts first s l → IsAtRest hosts first s (log_published Tx l)
-publishes hosts first s l tie = (
-  tie.0,
-  record { none_refused = tie.1.none_refused; matches = tie.1.matches; fair = tie.1.fair; marks = tie.1.marks },
-  refl,
-)
+publishes hosts first s l tie = grind (arith, common_steps)
 
 pub can_publish : (hosts : Bool) (first : ℕ) (s : DriverState) (c : RingContents) → Tells (IsTied hosts first s) c → CanPublish Tx c
 can_publish hosts first s c tells = λ honest l is. let tie = tells honest l is in tie.1.fair

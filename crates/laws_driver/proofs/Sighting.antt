@@ -1,16 +1,16 @@
 -- A fact of the driver's connections, of those that are gone and of who waits, through all that a poll does: it is kept where small changes
 -- keep it.
-use Rattle.std.proofs.Common.{◌≡◌, ℕ, ◌==◌, ◌&&◌, not, Bool, true, false, cond, List, [], ◌∷◌, filter, Option, Some, None, refl, sym, ap, subst, ◌∙◌, slice_get}
+use Rattle.std.proofs.{Common.arith, lemmas.Grind.common_steps}
+use Rattle.std.proofs.Common.{◌≡◌, ℕ, ◌==◌, not, Bool, true, false, cond, List, [], ◌∷◌, filter, Option, Some, None, refl, sym, ap, subst, ◌∙◌, slice_get}
 use Rattle.vs_conn.specs.{End.{is_refused, is_reset, owes_of, verdict_of}, declared.end.{Owed.Owed, Verdict.Verdict}}
 use Rattle.vs_flow.specs.{CleanPairs.of_host, Flow.same_flow, Table.{IsRising, IsTable, Table, entry_of}, declared.flow.Flow.Flow}
 use Rattle.vs_header.specs.declared.Header.{Header}
 use Rattle.vs_limits.specs.declared.TheConstants.{HOST_CID}
 use Rattle.laws_history.specs.declared.packet.Packet.{Packet}
 use Rattle.vs_page.{specs.{Fair.IsFairLog, Log.{Driver, Log, flow_got}, Open.is_dropped, declared.log.LogEntry.TheVariants.GotPacket}, proofs.Flows.same_is}
-use Rattle.vs_replies.specs.Owed.{reply_to}
 use Rattle.laws_tables.{specs.{Matches.Matches, Steps.{HasEnd, is_kept}}, proofs.{Fair.{got_not_refused, heard_all}, Slots.found_by}}
 use Rattle.vs_driver_parts.specs.{Connections.{after_leaving, keeping, paid_connection, with_connection, with_request}, Conversations.after_paying}
-use Rattle.vs_driver_parts.specs.Receiving.{after_packet, after_verdict, all_left, is_request, may_open, on_heard, on_known, on_packet, on_unknown, reset_reply, with_reply}
+use Rattle.vs_driver_parts.specs.Receiving.{after_packet, after_verdict, all_left, may_open, on_heard, on_known, on_packet, on_unknown, reset_reply, with_reply}
 use Rattle.vs_driver_parts.{specs.State.{DriverConnection, DriverEntry, DriverState, GoneConnection, Listener}, proofs.{Ids.found_under, Packets.{first_under, others_left, packet_known, packet_unknown}}}
 use Rattle.laws_driver.{specs.Honest.{IsFitState, ends_of_state}, proofs.{Carrying.Carries, Resetting.{first_contained, with_cid}, Tabling.{Stands, entry_fits, has_end, leaves}}}
 use Rattle.laws_driver.proofs.Taking.{with_reply_fits}
@@ -56,14 +56,7 @@ module _ (P : Sight) (small : Small P) where
     heard_seen e sound stands v is taken = small.hears v p e s stands is x
 
     unknown_seen : Sees P (on_unknown p s)
-    unknown_seen = by (is_reset p.header) (is_request p.header) (may_open (flow_got Driver p) s) refl
-      where
-        by : (r q o : Bool) → may_open (flow_got Driver p) s ≡ o
-            → Sees P (cond r s (cond (q && o) (with_request (flow_got Driver p) p.header s) (with_reply (reply_to (flow_got Driver p) p.header) s)))
-        by true q o may = x
-        by false true true may = small.asks (flow_got Driver p) p.header s may x
-        by false true false may = x
-        by false false o may = x
+    unknown_seen = grind (arith, common_steps)
 
     -- Packets of a connection aren't refused.
     packet_seen : (first : ℕ) (log : Log) → IsFitState true s → Matches Driver first (ends_of_state s) log → IsFairLog Driver (GotPacket p ∷ log)

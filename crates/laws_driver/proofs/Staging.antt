@@ -1,12 +1,12 @@
 -- What staging, publishing and getting back pages keeps.
-use Rattle.std.proofs.Common.{◌≡◌, ℕ, ◌+◌, ◌-◌, ◌==◌, Bool, true, false, cond, List, Option, Some, None, refl, ap}
+use Rattle.std.proofs.{Common.{◌≡◌, ℕ, ◌+◌, ◌-◌, ◌==◌, Bool, true, false, cond, List, Option, Some, None, refl, ap, arith}, lemmas.Grind.common_steps}
 use Rattle.vs_contents.specs.CallTree.{Done, Ask}
 use Rattle.laws_history.specs.declared.packet.Packet.{Packet}
 use Rattle.vs_ring_port.specs.{DriverCalls.{CanPublish, Publish, Reap}, declared.queue.Queue.{Queue, TheVariants.Tx}, Contents.RingContents, EndLog.{EndLog, log_published}}
 use Rattle.vs_ring_port.specs.EndLog.{log_reaped, log_staged}
 use Rattle.vs_driver_parts.specs.{Conversations.{one_more_in_flight, post_packet, publish_of, reap_all, reap_one, reaped, stage_of, stage_packet}, State.DriverState}
 use Rattle.vs_driver_parts.specs.Playing.{RingAllows}
-use Rattle.laws_driver.proofs.{Carrying.{Fact, IsTiedBy, PutsWith, RestsWith, published_other, published_rest, reaped_same, rest_tied, staged_other, staged_with}, Ringing.IsAtRest}
+use Rattle.laws_driver.proofs.{Carrying.{Fact, IsTiedBy, PutsWith, RestsWith, published_other, reaped_same, rest_tied, staged_other, staged_with}, Ringing.IsAtRest}
 use Rattle.laws_driver.proofs.{Ringing.{Tells, can_publish, can_publish_other, moves, tells_weaker, can_stage, can_stage_other}, Keeping.{Keeps, keeps_while}}
 use Rattle.laws_driver.specs.Staged.{IsTied}
 use Rattle.vs_limits.specs.declared.TheConstants.{STAGED_MAX}
@@ -27,9 +27,7 @@ may_publish hosts first fact s c ties = can_publish hosts first s c (tells_weake
 -- What is staged on tx is published.
 pub after_publish : (hosts : Bool) (first : ℕ) (fact : Fact) (s : DriverState) (c d : RingContents) → RingAllows (Publish Tx) tt c d → Ties hosts first fact s c
     → Rests hosts first fact s d
-after_publish hosts first fact s c d made ties =
-    moves _ _ _ _ _ (log_published Tx) c d made.1 (IsTiedBy hosts first fact s) (RestsWith hosts first fact s)
-    (λ l tie fair. published_rest hosts first fact s l tie) ties
+after_publish hosts first fact s c d made ties = grind (arith, common_steps)
 
 module _ (hosts : Bool) (first : ℕ) (fact : Fact) where
   pub publish_tx : (s : DriverState) (c : RingContents) → Ties hosts first fact s c → Keeps (Rests hosts first fact) (publish_of Tx s) c

@@ -1,14 +1,14 @@
 -- Where a stage of a poll ends for want of a page: the last load showed none that isn't taken.
-use Rattle.std.proofs.Common.{◌≡◌, ◌<◌, ◌≤◌, ◌+◌, ◌==◌, ℕ, zero, suc, nat_lt, nat_le, Bool, true, false, cond, List, [], length, Option, Some, None, refl, sym, subst, arith}
-use Rattle.std.proofs.lemmas.Bool.{eqb-true, leb-true, ltb-true}
+use Rattle.std.proofs.lemmas.Grind.{common_steps}
+use Rattle.std.proofs.Common.{◌≡◌, ◌<◌, ◌≤◌, ◌+◌, ℕ, zero, suc, nat_lt, nat_le, Bool, true, false, cond, List, length, Option, Some, None, refl, subst, arith}
+use Rattle.std.proofs.lemmas.Bool.{leb-true, ltb-true}
 use Rattle.vs_contents.specs.{CallTree.{Ask, Done, bind, while_up_to}, Contents.Relates}
-use Rattle.vs_limits.specs.declared.TheConstants.{DRIVER_REPLIES_FULL, STAGED_MAX}
-use Rattle.vs_ring_port.specs.{Contents.RingContents, DriverCalls.{DriverAnswer, DriverCall, DriverLearns, LoadCid, Publish, Reap, Stage}, Known.{Known, StopsAt, after_stores}}
-use Rattle.vs_ring_port.{specs.declared.queue.Queue.{Queue, TheVariants.{Event, Rx, Tx}}, proofs.{Knowing.driver_keeps, Stopping.{NotFewer, at_first, grown_by, stops_by}}}
-use Rattle.vs_driver_parts.specs.{Playing.{Plays, RingAllows}, Receiving.{after_reset, is_reset_event, on_page}, Conversations.{DriverTree, Round, event_reaped, goes_on_with}}
-use Rattle.vs_driver_parts.specs.Conversations.{packet_reaped, published, reap_all, reap_one, reaped, staged_again, start, take_all, take_event, take_packet, all_taken}
+use Rattle.vs_limits.specs.declared.TheConstants.{DRIVER_REPLIES_FULL}
+use Rattle.vs_ring_port.specs.{Contents.RingContents, DriverCalls.{DriverAnswer, DriverCall, DriverLearns, LoadCid, Publish, Reap}, Known.{Known, StopsAt, after_stores}}
+use Rattle.vs_ring_port.{specs.declared.queue.Queue.{Queue, TheVariants.{Event, Rx, Tx}}, proofs.{Stopping.{NotFewer, at_first, stops_by}}}
+use Rattle.vs_driver_parts.specs.{Playing.{Plays, RingAllows}, Receiving.{after_reset, is_reset_event, on_page}, Conversations.{DriverTree, Round, event_reaped}}
+use Rattle.vs_driver_parts.specs.Conversations.{packet_reaped, published, reap_all, reap_one, staged_again, start, take_all, take_event, take_packet, all_taken}
 use Rattle.vs_driver_parts.specs.State.{DriverState}
-use Rattle.laws_driver.proofs.Shown.{ring_allows}
 
 -- What holds at each end of a conversation.
 abbrev Keeps : {A : Type 0} → (A → RingContents → Type 0) → DriverTree A → RingContents → Type 0
@@ -28,19 +28,10 @@ keeps_then P Q (Done x) f c keeps rest = rest x c keeps
 keeps_then P Q (Ask call go) f c keeps rest = λ a d allowed. keeps_then P Q (go a) f d (keeps a d allowed) rest
 
 -- a publication leaves what was seen
-after_stored : (n : ℕ) (queue : Queue) (k l : Known) → StopsAt queue k l → StopsAt queue k (after_stores n queue l)
-after_stored n Rx k l stops = record { loaded = stops.loaded; none_left = stops.none_left; all_told = stops.all_told }
-after_stored n _ k l stops = record { loaded = stops.loaded; none_left = stops.none_left; all_told = stops.all_told }
-
 stored_by : (queue : Queue) (a b c : Option Known) (R : Known → Known → Type 0)
     → ((l m : Known) → R l m → (n : ℕ) × (m ≡ after_stores n queue l))
     → Relates a b (StopsAt queue) → Relates b c R → Relates a c (StopsAt queue)
-stored_by queue None None c R is first stored = stored
-stored_by queue None (Some l) c R is first stored = absurd cc
-stored_by queue (Some k) None c R is first stored = absurd first
-stored_by queue (Some k) (Some l) None R is first stored = stored
-stored_by queue (Some k) (Some l) (Some m) R is first stored =
-    let e = is l m stored in subst (λ (z : Known). StopsAt queue k z) (sym e.1) (after_stored e.0 queue k l first)
+stored_by queue a b c R is first stored = grind (arith, common_steps)
 
 module _ (queue : Queue) (a : Option Known) where
   abbrev Grown : RingContents → Type 0
@@ -50,9 +41,7 @@ module _ (queue : Queue) (a : Option Known) where
   Stops d = Relates a d.known (StopsAt queue)
 
   grown_call : (call : DriverCall) (answer : DriverAnswer call) (c d : RingContents) → RingAllows call answer c d → Grown c → Grown d
-  grown_call call answer c d allowed grown =
-      grown_by queue a c.known d.known grown
-      (driver_keeps (Ask call (λ z. Done z)) answer c d (answer, d, ring_allows call answer c d allowed, (refl, refl)))
+  grown_call call answer c d allowed grown = grind (arith, common_steps)
 
   stops_none : (c d : RingContents) → RingAllows (Reap queue) None c d → Grown c → Stops d
   stops_none c d allowed grown = stops_by (List ℕ) queue a c.known d.known grown allowed.1.known
@@ -86,12 +75,7 @@ module _ (queue : Queue) (a : Option Known) where
         (by_last m step (λ q d on more. loop step each m q d on more))
 
     again : (m : ℕ) (r : Round) (c : RingContents) → Grown c → r.count + m ≡ n → Keeps (Steps m) (staged_again queue r) c
-    again m r c grown left = λ u d allowed. by (r.state.staged + 1 == STAGED_MAX) d (grown_call (Stage queue []) u c d allowed grown)
-      where
-        by : (b : Bool) (d : RingContents) → Grown d → Keeps (Steps m) (bind (cond b (Ask (Publish queue) (λ _. Done (record r.state { staged = 0 })))
-            (Done (record r.state { staged = r.state.staged + 1 }))) (goes_on_with r)) d
-        by true d on = λ v e also. (grown_call (Publish queue) v d e also on, left)
-        by false d on = (on, left)
+    again m r c grown left = grind (arith, common_steps)
 
     ends_published : (r : Round) (c : RingContents) → Ends r c → Keeps Ends (published queue r) c
     ends_published r c ends = λ u d allowed.
@@ -175,17 +159,8 @@ module _ (a : Option Known) where
   PagesStep m (s, true) d = Grown Tx a d × (s.in_flight ≡ m)
   PagesStep m (s, false) d = PagesEnd s d
 
-  page_reaped : (m : ℕ) (s : DriverState) (c d : RingContents) → Grown Tx a c → s.in_flight ≡ suc m → (page : Option (List ℕ))
-      → RingAllows (Reap Tx) page c d → PagesStep m (reaped s page) d
-  page_reaped m s c d grown left None allowed = λ some. stops_none Tx a c d allowed grown
-  page_reaped m s c d grown left (Some page) allowed = (grown_call Tx a (Reap Tx) (Some page) c d allowed grown, omega (arith, left))
-
   one_reaped : (m : ℕ) (s : DriverState) (c : RingContents) → Grown Tx a c → s.in_flight ≡ suc m → Keeps (PagesStep m) (reap_one s) c
-  one_reaped m s c grown left = by (s.in_flight == 0) refl
-    where
-      by : (b : Bool) → (s.in_flight == 0) ≡ b → Keeps (PagesStep m) (cond b (Done (s, false)) (Ask (Reap Tx) (λ page. Done (reaped s page)))) c
-      by true none = absurd (omega (arith, left, eqb-true s.in_flight 0 none))
-      by false none = λ page d allowed. page_reaped m s c d grown left page allowed
+  one_reaped m s c grown left = grind (arith, common_steps)
 
   pages_last : (m : ℕ) → ((s : DriverState) (d : RingContents) → Grown Tx a d → s.in_flight ≡ m → Keeps PagesEnd (while_up_to m reap_one s) d)
       → (x : DriverState × Bool) (d : RingContents) → PagesStep m x d

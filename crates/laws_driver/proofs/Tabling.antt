@@ -1,10 +1,10 @@
 -- What steps on the table do to the driver's numbers, and to its connections as ends.
-use Rattle.std.proofs.Common.{◌≡◌, ℕ, ◌+◌, ◌<◌, ◌≤◌, ◌^◌, ◌==◌, Bool, true, false, cond, not, List, [], ◌∷◌, ◌++◌, get_or, refl, ap, ◌∙◌, Some, arith, ◌-◌, drop, length}
-use Rattle.std.{proofs.lemmas.List.Elements.{All-map, All-push, All-filter, All-drop}, specs.{List.All, Prelude.Contains}}
+use Rattle.std.proofs.Common.{◌≡◌, ℕ, ◌+◌, ◌<◌, ◌≤◌, ◌^◌, ◌==◌, Bool, true, false, cond, not, List, [], ◌∷◌, ◌++◌, get_or, refl, ap, ◌∙◌, Some, arith}
+use Rattle.std.{proofs.lemmas.{Grind.common_steps, List.Elements.{All-map, All-push, All-filter}}, specs.{List.All, Prelude.Contains}}
 use Rattle.vs_header.specs.declared.Kind.TheVariants.{Stream}
 use Rattle.vs_flow.specs.{CleanPairs.kept_if, Table.{Table, entry_under, with_entry, without, next_entry, revalued}, Flow.host_asks, declared.flow.Flow.Flow}
 use Rattle.vs_flow.proofs.Tables.{with_value_sound, without_sound, with_entry_sound, revalued-flow, IsAccepted}
-use Rattle.vs_limits.specs.declared.TheConstants.{HOST_CID, LAST_PORT, CLEAN_PAIRS}
+use Rattle.vs_limits.specs.declared.TheConstants.{HOST_CID, LAST_PORT}
 use Rattle.vs_replies.specs.declared.Reply.{Reply}
 use Rattle.laws_tables.{proofs.Slots.{changed_slot, one_end, removed_slot}, specs.{Ends.{Ends, FlowEnd, entries_of}, Steps.{HasEnd, with_end, left, with_clean}}}
 use Rattle.vs_driver_parts.specs.{State.{DriverConnection, DriverEntry, DriverState, GoneConnection}, Connections.{with_connection, after_leaving, waits_no_more, is_let_go}}
@@ -25,11 +25,7 @@ module _ {hosts : Bool} where
 
   -- Another connection in its place.
   revalued_fits : (slot : ℕ) (c : DriverConnection) (e : DriverEntry) → IsHeldBy c → c.end.kind ≡ Stream → IsFitEntry hosts e → IsFitEntry hosts (revalued slot c e)
-  revalued_fits slot c e held kind fits = by (e.slot == slot)
-    where
-      by : (b : Bool) → IsFitEntry hosts (cond b (record e { value = c }) e)
-      by true = record { ports = fits.ports; peer = fits.peer; kind = kind; buffer = held }
-      by false = fits
+  revalued_fits slot c e held kind fits = grind (arith, common_steps)
 
   pub connection_fits : (s : DriverState) (slot : ℕ) (c : DriverConnection) → IsFitState hosts s → IsHeldBy c → c.end.kind ≡ Stream
       → IsFitState hosts (with_connection slot c s)
@@ -54,18 +50,7 @@ module _ {hosts : Bool} where
 
   -- Another CID, and other replies.
   pub replies_fit : (cid : ℕ) (rs : List Reply) (s : DriverState) → IsFitState hosts s → cid < 2 ^ 64 → All IsFitReply rs → IsFitState hosts (record s { cid = cid; replies = rs })
-  replies_fit cid rs s fits less owed = record {
-    cid_fits = less;
-    port_left = fits.port_left;
-    sound = fits.sound;
-    places = fits.places;
-    given = fits.given;
-    entries = fits.entries;
-    ports = fits.ports;
-    owed = owed;
-    clean_fit = fits.clean_fit;
-    clean_sound = fits.clean_sound;
-  }
+  replies_fit cid rs s fits less owed = grind (arith, common_steps)
 
   -- It leaves the table.
   left_by : (b : Bool) (s : DriverState) (e : DriverEntry) (t : Table DriverConnection) (gone : List GoneConnection)
@@ -110,15 +95,10 @@ module _ {hosts : Bool} where
       → let s' : DriverState = keeping k f (record (cond b (waits_no_more e s) s) { table = t; gone = gone }) in
       (ends_of_state s' ≡ with_clean k f (record (ends_of_state s) { entries = entries_of end_in t })) × (s'.broken ≡ s.broken)
       × (IsFit hosts s.cid s.next_port s.next_id t s.replies (kept_if k f s.clean) → IsFitState hosts s')
-  kept_by true true f s e t gone = (refl, refl, λ fits. fits)
-  kept_by true false f s e t gone = (refl, refl, λ fits. fits)
-  kept_by false true f s e t gone = (refl, refl, λ fits. fits)
-  kept_by false false f s e t gone = (refl, refl, λ fits. fits)
+  kept_by b k f s e t gone = grind (arith, common_steps)
 
   kept_fit : (k : Bool) (f : Flow) (fs : List Flow) → IsFitClean hosts f → All (IsFitClean hosts) fs → All (IsFitClean hosts) (kept_if k f fs)
-  kept_fit true f fs one all =
-      let n : ℕ = length fs + 1 - CLEAN_PAIRS in All-push (IsFitClean hosts) (drop n fs) f (All-drop (IsFitClean hosts) n fs all) one
-  kept_fit false f fs one all = all
+  kept_fit k f fs one all = grind (arith, common_steps)
 
 pub record LeavesKept (hosts : Bool) (k : Bool) (s : DriverState) (e : DriverEntry) (t : DriverState) : Type 0 where
   pub ends : ends_of_state t ≡ with_clean k e.flow (left e.flow (ends_of_state s))
@@ -175,15 +155,4 @@ module _ {hosts : Bool} where
 
 -- Less is said of the peers.
 pub fits_weaker : (hosts fewer : Bool) → (fewer ≡ true → hosts ≡ true) → (s : DriverState) → IsFitState hosts s → IsFitState fewer s
-fits_weaker hosts fewer then s fits = record {
-  cid_fits = fits.cid_fits;
-  port_left = fits.port_left;
-  sound = fits.sound;
-  places = fits.places;
-  given = fits.given;
-  entries = λ k d lt. let e = fits.entries k d lt in record { ports = e.ports; peer = λ is. e.peer (then is); kind = e.kind; buffer = e.buffer };
-  ports = fits.ports;
-  owed = fits.owed;
-  clean_fit = λ k d lt. let f = fits.clean_fit k d lt in record { ports = f.ports; peer = λ is. f.peer (then is) };
-  clean_sound = fits.clean_sound;
-}
+fits_weaker hosts fewer then s fits = grind (arith, common_steps)

@@ -34,9 +34,7 @@ pub record Gets (hosts : Bool) (first : ℕ) (p : Packet) (s : DriverState) (log
 by_ends : (p : Packet) (answer : Bool) (part : Ends) (es : List ConnectionEnd) → is_dropped Driver part.cid p.header ≡ false
     → ends_of (flow_got Driver p) part.entries ≡ es
     → after_packet_on Driver es p (flow_got Driver p) answer part ≡ after_taking Driver p answer part
-by_ends p answer part es kept are =
-    ap (λ (xs : List ConnectionEnd). after_packet_on Driver xs p (flow_got Driver p) answer part) (sym are)
-    ∙ ap (λ (b : Bool). cond b part (after_packet_on Driver (ends_of (flow_got Driver p) part.entries) p (flow_got Driver p) answer part)) (sym kept)
+by_ends p answer part es kept are = grind (arith, common_steps)
 
 module _ {hosts : Bool} (p : Packet) (e : DriverEntry) (s : DriverState) (fits : IsFitState hosts s) (stands : Stands s e) where
   stays : (c : DriverConnection) → c.end ≡ end_after e.value.end p.header → IsHeldBy c
@@ -133,12 +131,7 @@ record MayOpen (f : Flow) (s : DriverState) : Type 0 where
   id : s.next_id ≤ LAST_ID
 
 may_open_as : (f : Flow) (s : DriverState) → may_open f s ≡ true → MayOpen f s
-may_open_as f s is = record {
-  peer = grind (arith, nat_tests, common_steps, is);
-  assigned = grind (arith, nat_tests, common_steps, is);
-  place = grind (arith, nat_tests, common_steps, is);
-  id = grind (arith, nat_tests, common_steps, is);
-}
+may_open_as f s is = grind (arith, common_steps)
 
 answering_held : (h : Header) (id : ℕ) → IsHeldBy (record { id = id; end = answering Stream BUF_ALLOC h; unread = []; unanswered = true; closed = false })
 answering_held h id = record { unread = refl; fits = omega arith; space = omega arith; least = omega arith; alloc = omega arith; rx_cnt = omega arith; fwd_cnt = omega arith }

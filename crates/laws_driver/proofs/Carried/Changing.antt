@@ -1,6 +1,6 @@
 -- Calls that read nothing keep the account: those that make no use of the ring, and a send.
-use Rattle.laws_tables.{proofs.{Adding.{number_put, got_over_put}, Slots.found_by, Goes.{Goes, drops, ended_goes, stays_still}}, specs.Steps.payload_on}
-use Rattle.std.proofs.Common.{◌≡◌, ℕ, ◌==◌, ◌&&◌, ◌||◌, not, cond, Bool, false, List, [], ◌∷◌, take, length, Option, Some, None, refl, Contains, Result, Ok, Err, ◌∙◌, true, arith}
+use Rattle.laws_tables.{proofs.{Adding.{number_put, got_over_put}, Slots.found_by, Goes.{Goes, ended_goes, stays_still}}, specs.Steps.payload_on}
+use Rattle.std.proofs.Common.{◌≡◌, ℕ, ◌==◌, ◌&&◌, ◌||◌, not, cond, Bool, false, List, [], ◌∷◌, take, length, Some, refl, Contains, Result, Ok, Err, ◌∙◌, true, arith}
 use Rattle.std.proofs.lemmas.{Grind.common_steps, List.Elements.All-filter}
 use Rattle.vs_conn.specs.{End.{grown, is_open, with_payload_sent, with_shut, wanting_credit}, declared.end.State.State}
 use Rattle.vs_flow.specs.Table.{IsTable}
@@ -9,7 +9,7 @@ use Rattle.vs_page.specs.{Fair.payload_got, Log.{Driver, Log}, declared.log.LogE
 use Rattle.vs_driver_parts.specs.{State.{DriverConnection, DriverEntry, DriverState, GoneConnection, entry_known_as, is_known_as}, Connections.after_close}
 use Rattle.vs_driver_parts.specs.Connections.{after_closing, after_grow, after_shut, after_shutdown, after_unlisten, all_closed}
 use Rattle.vs_driver_parts.specs.{Connections.{waiting_on}, declared.answers.{ListenError.ListenError}, Listening.after_accept}
-use Rattle.vs_driver_parts.{specs.{Listening.{listening, next_accepted, with_waiting, without_id}, Held.with_connection_in}, proofs.Numbers.numbers_gone_without}
+use Rattle.vs_driver_parts.{specs.{Listening.listening, Held.with_connection_in}, proofs.Numbers.numbers_gone_without}
 use Rattle.laws_driver.{specs.{Honest.{IsFitState, slots_of}, Carried.Received.{Account, AreReceived, EndsClean, ReceivedOn, keeps_all}}, proofs.{Calls.CarriesSend, Changing.close_changes}}
 use Rattle.laws_driver.proofs.Calling.{close_to, grow_to, shutdown_to}
 use Rattle.laws_driver.proofs.Carried.{Reading.given_none, Receiving.{changed_received, in_slots}}
@@ -18,9 +18,7 @@ use Rattle.vs_conn.specs.declared.end.State.TheVariants as state
 -- Directions are shut, by a shutdown or a close.
 shut_goes : (before aborted shut : Bool) (unread : List ℕ) → (not (aborted || shut) ≡ true → before ≡ true)
     → Goes before (not (aborted || shut)) unread (cond shut [] unread) [] []
-shut_goes before true true unread less = drops before unread []
-shut_goes before false true unread less = drops before unread []
-shut_goes before aborted false unread less = stays_still before _ unread [] less (λ on. refl)
+shut_goes before aborted shut unread less = grind (arith, common_steps)
 
 shut_keeps : (bits : ℕ) (c : DriverConnection) (closed : Bool) → (closed ≡ false → c.closed ≡ false) → let k = record (after_shut bits c) { closed = closed } in
     Goes (keeps_all c) (keeps_all k) c.unread k.unread [] [] × (EndsClean c → EndsClean k)
@@ -97,14 +95,7 @@ listen_slots port s (Ok x) = refl
 listen_slots port s (Err why) = refl
 
 pub accept_slots : (port : ℕ) (s : DriverState) → slots_of (after_accept port s) ≡ slots_of s
-accept_slots port s = by (next_accepted port s)
-  where
-    by : (o : Option ℕ) → slots_of (elim o as (λ _. DriverState) [
-      | None ↦ s
-      | Some id ↦ record s { listeners = with_waiting port (without_id id) s.listeners }
-    ]) ≡ slots_of s
-    by None = refl
-    by (Some id) = refl
+accept_slots port s = grind (arith, common_steps)
 
 -- send.
 pub send_receives : (first id : ℕ) (bytes : List ℕ) (a : Account)

@@ -1,4 +1,5 @@
 -- A connect opens a connection on which nothing was delivered; and the account of a driver that was just made.
+use Rattle.std.proofs.lemmas.Grind.{common_steps}
 use Rattle.laws_tables.{proofs.Adding.got_over_put, specs.{Later.IsLater, Steps.{request_on, port_after}}}
 use Rattle.std.{proofs.Common.{◌≡◌, ◌≢◌, ℕ, ◌+◌, ◌<◌, Bool, true, false, cond, None, List, [], ◌∷◌, refl, ap, ◌∙◌, arith, Some}, specs.List.All}
 use Rattle.vs_conn.specs.End.{asked, paid_of}
@@ -73,20 +74,4 @@ connect_carries first host a = record {
 
 -- Nothing was received before the first call.
 pub none_received : (size port id : ℕ) → AreReceived (no_account id) [] (slots_of (new_state size port id 0))
-none_received size port id = record {
-  numbers = record {
-    given = omega arith;
-    slots = λ i d within. absurd (omega (arith, within));
-    below = λ i d within. absurd (omega (arith, within));
-    apart = λ i d within. absurd (omega (arith, within));
-    distinct = λ i j d less within. absurd (omega (arith, within));
-    ports = λ i d within. absurd (omega (arith, within));
-  };
-  front = λ other. ([], refl);
-  held = λ i d within. absurd (omega (arith, within));
-  left = λ i d within. absurd (omega (arith, within));
-  passed = λ other. omega arith;
-  once = λ i j some same. absurd (omega (arith, some));
-  rising = λ i j less some same. absurd (omega (arith, some));
-  fresh = λ other less. (refl, refl);
-}
+none_received size port id = grind (arith, common_steps)

@@ -1,13 +1,11 @@
 -- What calls on the ring carry to their ends.
-use Rattle.std.proofs.Common.{◌≡◌, ℕ, ◌<◌, ◌≤◌, ◌^◌, List, [], Result, refl, arith, true}
+use Rattle.std.proofs.{Common.{ℕ, ◌<◌, ◌≤◌, ◌^◌, List, [], Result, refl, arith, true}, lemmas.Grind.common_steps}
 use Rattle.vs_limits.specs.declared.TheConstants.{HOST_CID, LAST_PORT}
-use Rattle.laws_history.specs.History.{Answerer, Asker, Side}
-use Rattle.vs_page.specs.{Fair.{instance_from, payload_of}, Log.{Driver, side_of}}
 use Rattle.vs_ring_port.specs.Contents.{RingContents}
 use Rattle.vs_driver_parts.specs.{declared.answers.{ConnectError.ConnectError, Polled.Polled, Sent.Sent}, Conversations.{connect_of, new_of, new_state, poll_of, send_of}}
 use Rattle.vs_driver_parts.specs.{Playing.Plays, State.DriverState}
 use Rattle.laws_driver.proofs.{Polling.poll_keeps, Calls.{connect_keeps, new_keeps, send_keeps}, Carrying.Fact, Keeping.keeps_end, Ringing.at_rest, Staging.Rests}
-use Rattle.laws_driver.{proofs.Carried.{Connecting.{connect_carries, none_received}, Polling.{Further, poll_carries}, Changing.send_receives}, specs.Honest.{IsFresh, IsHonestWith}}
+use Rattle.laws_driver.{proofs.Carried.{Connecting.connect_carries, Polling.{Further, poll_carries}, Changing.send_receives}, specs.Honest.{IsFresh, IsHonestWith}}
 use Rattle.laws_driver.specs.{Honest.slots_of, Carried.{Received.{Account, AreReceived, GoesOnWith, IsReceivedWith, no_account}, Senders.{IsRightJournal, IsRightWith}}}
 
 abbrev pub received_by : Account → Fact
@@ -42,15 +40,8 @@ connect_ends first host a s c d x port honest account plays = λ on l is.
     (kept on l is).1
 
 -- Nothing was sent before the first call.
-none_put : (side : Side) (k : ℕ) → payload_of (instance_from side k []) ≡ []
-none_put Asker k = refl
-none_put Answerer k = refl
-
 pub none_righted : (size port id : ℕ) → IsRightJournal id (no_account id).opened [] [] (slots_of (new_state size port id 0))
-none_righted size port id = record {
-  received = none_received size port id;
-  sent = record { senders = tt; puts = λ k. none_put (side_of Driver k.flow) k.number };
-}
+none_righted size port id = grind (arith, common_steps)
 
 abbrev starts : ℕ → Fact
 starts id part s log = IsRightJournal id (no_account id).opened [] log (slots_of s)

@@ -1,6 +1,6 @@
 -- Over any ring a conversation leaves it as honest as it was and its log fair, and adds to the log that it tells.
-use Rattle.std.{proofs.Common.{◌≡◌, ℕ, true, Option, Some, None, List, [], ◌∷◌, refl, sym, subst, ◌∙◌}, specs.Option.ForSome}
-use Rattle.vs_contents.specs.{CallTree.{Ask, Done}, Contents.Exposes}
+use Rattle.std.{proofs.{Common.{◌≡◌, ℕ, true, Option, Some, None, List, [], ◌∷◌, refl, subst, ◌∙◌, arith}, lemmas.Grind.common_steps}, specs.Option.ForSome}
+use Rattle.vs_contents.specs.CallTree.{Ask, Done}
 use Rattle.laws_history.specs.declared.packet.Packet.{Packet}
 use Rattle.vs_page.specs.{Held.{event_held, packet_held}, Log.{Driver, Log}, declared.log.LogEntry.{LogEntry, TheVariants.{GotEvent, GotPacket, Mark, PutPacket}}}
 use Rattle.vs_ring_port.specs.{Contents.{IsSound, RingContents}, DriverCalls.{DriverAnswer, DriverCall, DriverMoves, LoadCid, Publish, Reap, Stage}, EndLog.{EndLog, all_put}}
@@ -46,11 +46,7 @@ GoesOn c d = (d.honest ≡ c.honest) × (IsSound Driver c → IsSound Driver d) 
 
 moved : (call : DriverCall) (a : DriverAnswer call) (L : Rings → Type 0) (f : Rings → Rings) (Q : EndLog → Type 0) (g : EndLog → EndLog)
     (c d : RingContents) → DriverMoves call a L f Q g c d → ((l : EndLog) → IsLater l.entries (g l).entries) → GoesOn c d
-moved call a L f Q g c d made later = (made.honest, λ was. made.fair, told c.log made.log)
-  where
-    told : (o : Option EndLog) → Exposes o d.log Q g → TellsMore o d.log
-    told None is = is
-    told (Some l) is = subst (TellsMore (Some l)) (sym is.1) (later l)
+moved call a L f Q g c d made later = grind (arith, common_steps)
 
 one_goes : (call : DriverCall) (a : DriverAnswer call) (c d : RingContents) → RingAllows call a c d → GoesOn c d
 one_goes (Stage queue page) a c d allowed = moved _ _ _ _ _ (log_staged queue page) c d allowed (λ l. ([], refl))
@@ -82,10 +78,7 @@ honest_stays tree c d x plays = (goes_on tree c d x plays).0
 
 -- Nothing more is put on a connection after the SHUTDOWN that says 'no more is sent', by no call.
 later_by : (old : EndLog) (o p : Option EndLog) (m : EndLog) → o ≡ Some old → p ≡ Some m → TellsMore o p → IsLater old.entries m.entries
-later_by old o p m is told more =
-    let P : Option EndLog → Type 0 = λ q. TellsMore q p in
-    let Q : Option EndLog → Type 0 = λ q. TellsMore (Some old) q in
-    subst Q told (subst P is more)
+later_by old o p m is told more = grind (arith, common_steps)
 
 pub shut_still : {A : Type 0} (tree : DriverTree A) (c d : RingContents) (x : A) → IsSound Driver c → Plays tree c x d → c.honest ≡ true
     → ForSome c.log (λ l. ForSome d.log (λ m. StaysShut Driver l.entries m.entries))

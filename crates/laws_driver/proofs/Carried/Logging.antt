@@ -4,9 +4,9 @@ use Rattle.std.{proofs.lemmas.{Grind.common_steps, List.Elements.{All-contains, 
 use Rattle.vs_conn.specs.{End.{ConnectionEnd, is_open}, declared.shut.Shut.Shut}
 use Rattle.vs_flow.specs.{Connection.Connection, Flow.{host_asks, same_flow}, Table.{IsTable, next_entry, with_entry, without}, declared.flow.Flow.Flow}
 use Rattle.vs_flow.proofs.Entries.{same_flow_false}
-use Rattle.laws_history.specs.{History.{Answerer, Asker, Got, History, Side, gots, puts}, declared.packet.Packet.Packet, Packets.is_request, Again.count}
+use Rattle.laws_history.specs.{History.{Got, History, Side, gots, puts}, declared.packet.Packet.Packet}
 use Rattle.vs_page.specs.{Fair.{IsPrefixOf, asked_by, current, number_of, payload_got}, Log.{Driver, Log, flow_got, side_of, whole_of}, declared.log.LogEntry.TheVariants.GotPacket}
-use Rattle.vs_page.proofs.{Flows.{same_is, same_self, still}, PayloadLogs.got_stays}
+use Rattle.vs_page.proofs.{Flows.still, PayloadLogs.got_stays}
 use Rattle.vs_driver_parts.{proofs.Numbers.{numbers_left, numbers_with_entry, numbers_without}, specs.{Connections.{gone_as, is_let_go}, Held.HeldSlots, State.{DriverConnection, DriverEntry, GoneConnection}}}
 use Rattle.laws_tables.{specs.{Drains.Drains, Later.IsLater}, proofs.{Changes.{others_left, under_slot}, Logs.{all_of, nothing_more, prefix_then}}}
 use Rattle.laws_driver.specs.Carried.Received.{Account, AreReceived, DrainsTo, EndsClean, GoesOn, ReceivedOn, ReceivesOn, ends_with, keeps_all, with_opened}
@@ -20,16 +20,7 @@ pub record Leaves (log new : Log) (e : DriverEntry) : Type 0 where
 module _ (a : Account) (log new : Log) (grows : (c : Connection) → IsPrefixOf (payload_got Driver c log) (payload_got Driver c new))
     (more : (f : Flow) → number_of Driver f log ≤ number_of Driver f new) (later : IsLater log new) where
   later_on : (e : DriverEntry) → Leaves log new e → ReceivesOn a log e → ReceivesOn a new e
-  later_on e leaves x =
-      let now : current Driver e.flow log ≡ current Driver e.flow new =
-      ap (λ (n : ℕ). let c : Connection = record { flow = e.flow; number = n } in c) (sym leaves.number) in
-      record {
-        present = x.present ∙ now;
-        some = subst (λ (n : ℕ). 1 ≤ n) (sym leaves.number) x.some;
-        drains = subst (λ (bytes : List ℕ). Drains (keeps_all e.value) (a.received e.value.id) e.value.unread bytes)
-            (sym (leaves.got (number_of Driver e.flow log)) ∙ ap (λ (c : Connection). payload_got Driver c new) now) x.drains;
-        over = x.over;
-      }
+  later_on e leaves x = grind (arith, common_steps)
 
   later_gone : (g : GoneConnection) → ReceivedOn a log g → ReceivedOn a new g
   later_gone g x = record { flow = x.flow; some = x.some; drains = drains_on _ _ _ _ _ _ later x.drains }
@@ -58,13 +49,7 @@ same_received a log new slots later got numbers x =
 -- A packet is got of a flow that has no connection.
 number_by : (side : Side) (p : Packet) (w : History) (b : Bool)
     → let v : History = cond b (Got p ∷ w) w in asked_by side (puts w) (gots w) ≤ asked_by side (puts v) (gots v)
-number_by side p w false = omega arith
-number_by Asker p w true = omega arith
-number_by Answerer p w true = by (is_request p)
-  where
-    by : (b : Bool) → count is_request (gots w) ≤ cond b (count is_request (gots w) + 1) (count is_request (gots w))
-    by true = omega arith
-    by false = omega arith
+number_by side p w b = grind (arith, common_steps)
 
 pub passes_by : (a : Account) (p : Packet) (log : Log) (slots : HeldSlots) → All (λ e. e.flow ≢ flow_got Driver p) slots.table.entries
     → AreReceived a log slots → AreReceived a (GotPacket p ∷ log) slots
@@ -127,21 +112,11 @@ module _ (a : Account) (log new : Log) (slots : HeldSlots) (f : Flow) (c : Drive
   old_is other apart = ap (λ (t : Bool). cond t (current Driver f new) (a.opened other)) (apart_by other slots.next_id apart)
 
   rises : (g : Flow) → number_of Driver g log ≤ number_of Driver g new
-  rises g = by (same_flow g f) refl
-    where
-      by : (t : Bool) → same_flow g f ≡ t → number_of Driver g log ≤ number_of Driver g new
-      by true is = subst (λ (h : Flow). number_of Driver h log ≤ number_of Driver h new) (sym (same_is g f is)) (omega (arith, next))
-      by false is =
-          let apart : g ≢ f = λ same. let both : true ≡ false = sym (same_self f) ∙ subst (λ (h : Flow). same_flow h f ≡ false) same is in absurd cc in
-          let same = others g apart in omega (arith, same)
+  rises g = grind (arith, common_steps)
 
   -- It is none that was opened before.
   is_new : (other : ℕ) → a.opened other ≡ current Driver f new → ⊥
-  is_new other is =
-      let past = x.passed other in
-      let here : (current Driver f new).number ≤ number_of Driver f log =
-      subst (λ (k : Connection). k.number ≤ number_of Driver k.flow log) is past in
-      absurd (omega (arith, here, next))
+  is_new other is = grind (arith, common_steps)
 
   held_still : (e : DriverEntry) → e.flow ≢ f → e.value.id ≢ slots.next_id → ReceivesOn a log e → ReceivesOn b new e
   held_still e apart other y =
@@ -256,11 +231,4 @@ module _ (a : Account) (log new : Log) (slots : HeldSlots) (f : Flow) (c : Drive
           omega (arith, was, one, two)
 
   pub opened_goes_on : GoesOn a b
-  opened_goes_on = record {
-    first_id = refl;
-    opened = λ other some. old_is other (λ is.
-        let none = (x.fresh slots.next_id (omega arith)).0 in
-        let one = subst (λ (k : ℕ). 1 ≤ (a.opened k).number) is some in
-        absurd (omega (arith, none, one)));
-    received = λ other. refl;
-  }
+  opened_goes_on = grind (arith, common_steps)

@@ -1,6 +1,6 @@
 -- The guest's calls on the pages as they stand: what each carries to its end.
-use Rattle.std.proofs.Common.{◌≡◌, ℕ, ◌≤◌, ◌<◌, ◌^◌, ◌==◌, Bool, true, false, cond, List, [], ◌++◌, Result, Ok, Err, is_some, refl, sym, ap, subst, ◌∙◌, append-nil, arith}
-use Rattle.std.proofs.{Math.Path.fun_ext, lemmas.Bool.Decides.nat_tests}
+use Rattle.std.proofs.Common.{◌≡◌, ℕ, ◌≤◌, ◌<◌, ◌^◌, Bool, true, false, List, [], ◌++◌, Result, Ok, Err, is_some, refl, sym, ap, subst, ◌∙◌, append-nil, arith}
+use Rattle.std.proofs.{Math.Path.fun_ext, lemmas.{Bool.Decides.nat_tests, Grind.common_steps}}
 use Rattle.vs_contents.specs.CallTree.{Ask, Done}
 use Rattle.vs_flow.specs.Connection.{Connection}
 use Rattle.vs_limits.specs.declared.TheConstants.{HOST_CID}
@@ -103,11 +103,7 @@ send_further first id bytes a = record {
 }
 
 gives : (a b : Account) (id : ℕ) (bytes : List ℕ) → GoesOn a b → GoesOn (with_received id bytes a) (with_received id bytes b)
-gives a b id bytes on = record {
-  first_id = on.first_id;
-  opened = on.opened;
-  received = λ other. ap (λ (xs : List ℕ). xs ++ cond (other == id) bytes []) (on.received other);
-}
+gives a b id bytes on = grind (arith, common_steps)
 
 pub call_received : (first : ℕ) (call : GuestCall) (a : Account) → CarriesCall first call (Further a) (λ reply. Further (account_after call reply a))
 call_received first (Connect port) a = connect_carries first port a

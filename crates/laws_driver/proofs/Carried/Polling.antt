@@ -2,7 +2,7 @@
 use Rattle.laws_tables.proofs.{Adding.{number_got, number_put, got_over_put, got_adds}, Fair.{got_goes_on, got_not_refused, heard_all}, Slots.found_by, Tables.driver_begun}
 use Rattle.laws_tables.{proofs.{Fair.own_got_fair, OnFlow.end_follows, Goes.{Goes, comes_in, delivers_to, only_delivered, stays_still}}, specs.{Drains.{only_on, receives}, Ends.is_new}}
 use Rattle.laws_tables.specs.{Ends.{Ends, ends_of, is_among, replied}, Heard.heard_of, Later.IsLater, Matches.{Matches, MatchesFlows}, Steps.{HasEnd, owed_on, reply_on, is_kept}}
-use Rattle.std.proofs.Common.{◌≡◌, ◌≢◌, ℕ, ◌+◌, ◌<◌, ◌≤◌, ◌==◌, ◌&&◌, not, ◌⊎◌, inl, inr, Bool, true, false, cond, List, [], ◌∷◌, ◌++◌, Contains, Option, Some, None, refl, sym, ap, subst, ◌∙◌}
+use Rattle.std.proofs.Common.{◌≡◌, ◌≢◌, ℕ, ◌+◌, ◌<◌, ◌==◌, ◌&&◌, not, ◌⊎◌, inl, inr, Bool, true, false, cond, List, [], ◌∷◌, ◌++◌, Contains, Option, Some, None, refl, sym, ap, subst, ◌∙◌}
 use Rattle.std.{proofs.{Common.arith, lemmas.{Bool.Decides.nat_tests, Grind.common_steps, List.Elements.All-contains}}, specs.List.{All, filter, slice_get}}
 use Rattle.vs_conn.specs.{End.{ConnectionEnd, answering, end_after, is_refused, is_reset, owes_of, verdict_of}, declared.end.{Owed.Owed, State.TheVariants.Ended, Verdict.Verdict}}
 use Rattle.vs_conn.proofs.Frames.{got_own}
@@ -198,11 +198,7 @@ abbrev pub Further : Account → Fact
 Further a part s log = IsFurther a (slots_of s) log
 
 pub goes_then : (a b c : Account) → GoesOn a b → GoesOn b c → GoesOn a c
-goes_then a b c one two = record {
-  first_id = two.first_id ∙ one.first_id;
-  opened = λ id some. two.opened id (subst (λ (k : Connection). 1 ≤ k.number) (sym (one.opened id some)) some) ∙ one.opened id some;
-  received = λ id. two.received id ∙ one.received id;
-}
+goes_then a b c one two = grind (arith, common_steps)
 
 number_rises : (side : Side) (put got : List Packet) (p : Packet) → side ≡ Answerer → packets.is_request p ≡ true
     → asked_by side put (p ∷ got) ≡ asked_by side put got + 1

@@ -1,42 +1,20 @@
 -- A receive: the bytes that it gives are of the unread ones the first.
 use Rattle.laws_tables.{specs.Drains.{only_on, Drains}, proofs.{Slots.found_by, Logs.{nothing_more, prefix_then, shorter}, Goes.comes_out}}
 use Rattle.std.proofs.Common.{◌≡◌, ◌≢◌, ℕ, zero, suc, ◌<◌, ◌==◌, nat_lt, not, Bool, true, false, cond, List, [], ◌∷◌, ◌++◌, length, take, drop, get_or, Option, Some, None, refl}
-use Rattle.std.proofs.{Common.{sym, ap, subst, ◌∙◌, arith, append-nil, append_assoc, take-append-drop}, lemmas.{List.{get_or_default, take_min}, Option.get_or_from_slice_get}}
+use Rattle.std.proofs.{Common.{sym, ap, subst, ◌∙◌, arith, append-nil}, lemmas.{List.get_or_default, Option.get_or_from_slice_get}}
 use Rattle.std.{proofs.{lemmas.{Grind.common_steps, Option.slice_get_within, Bool.Decides.nat_tests}, Math.Seq.take-nil}, specs.List.All}
-use Rattle.vs_conn.specs.declared.end.State.{State}
 use Rattle.vs_flow.{specs.{Connection.Connection, Table.IsTable}, proofs.{Entries.found_passes, Lookups.find_place}}
 use Rattle.vs_page.{specs.{Fair.{IsPrefixOf, current, payload_got}, Log.{Driver, Log}}, proofs.PayloadLogs.got_stays}
-use Rattle.vs_driver_parts.specs.Connections.{after_read, after_recv, all_gone_after_read, entry_answer, entry_read, gone_answer, is_at_end, nothing_read, read_of, recv_of}
+use Rattle.vs_driver_parts.specs.Connections.{after_read, after_recv, all_gone_after_read, entry_read, gone_answer, recv_of}
 use Rattle.vs_driver_parts.specs.{Connections.{unread_of_id, with_connection}, State.{DriverConnection, DriverEntry, DriverState, GoneConnection, entry_known_as, gone_known_as, is_known_as}}
 use Rattle.vs_driver_parts.{specs.{declared.answers.Received.Received, Held.HeldSlots, SlotFields.AreNumbered}, proofs.{GoneChanges.read_none, Known.after_recv_gone}}
-use Rattle.vs_driver_parts.proofs.Known.{after_recv_known, recv_gone_some, recv_known, unread_gone_some, unread_known}
+use Rattle.vs_driver_parts.proofs.Known.{after_recv_known, recv_gone_some, unread_gone_some}
 use Rattle.laws_driver.{specs.{Honest.slots_of, Carried.Received.{Account, AreReceived, ReceivedOn, after_receive, bytes_got}}}
 use Rattle.laws_driver.{specs.Carried.Received.{DrainsTo, keeps_all, with_received}, proofs.Carried.Receiving.{Keeps, apart_by}}
-use Rattle.laws_driver.proofs.Carried.Receiving.{changed_received, number_same, same_account}
-use Rattle.vs_conn.specs.declared.end.State.TheVariants as state
-use Rattle.vs_driver_parts.specs.declared.answers.Received.TheVariants as got
-
-none_given : (s : State) → (xs : List ℕ) → bytes_got (nothing_read s) xs ≡ []
-none_given state.Asked xs = refl
-none_given y xs = refl
-
-bytes_of : (n : ℕ) (unread : List ℕ) (none : Received) → ((xs : List ℕ) → bytes_got none xs ≡ []) → bytes_got (read_of n unread none) unread ≡ take n unread
-bytes_of n [] none nothing = nothing [] ∙ sym (take-nil n)
-bytes_of n (x ∷ xs) none nothing = take_min n (x ∷ xs)
-
-entry_bytes : (n : ℕ) (e : DriverEntry) → bytes_got (entry_answer n e) e.value.unread ≡ take n e.value.unread
-entry_bytes n e = bytes_of n e.value.unread _ (by (is_at_end e.value.end))
-  where
-    by : (b : Bool) (xs : List ℕ) → bytes_got (cond b got.End (nothing_read e.value.end.state)) xs ≡ []
-    by true xs = refl
-    by false xs = none_given e.value.end.state xs
+use Rattle.laws_driver.proofs.Carried.Receiving.{changed_received, same_account}
 
 gone_bytes : (n : ℕ) (g : GoneConnection) → bytes_got (gone_answer n g) g.unread ≡ take n g.unread
-gone_bytes n g = bytes_of n g.unread _ (by (is_at_end g.end))
-  where
-    by : (b : Bool) (xs : List ℕ) → bytes_got (cond b got.End got.Reset) xs ≡ []
-    by true xs = refl
-    by false xs = refl
+gone_bytes n g = grind (arith, common_steps)
 
 read_keeps : (n : ℕ) (c : DriverConnection) → Keeps c (after_read n c)
 read_keeps n c = (λ is. grind (arith, common_steps, is), λ over unclosed is. grind (arith, common_steps, over, unclosed, is))
@@ -47,10 +25,6 @@ given_none true xs = nothing_more xs
 given_none false xs = nothing_more xs
 
 module _ (a : Account) (log : Log) (id n : ℕ) (s : DriverState) (x : AreReceived a log (slots_of s)) where
-  -- The account with these bytes.
-  gives : List ℕ → ℕ → List ℕ
-  gives bytes other = a.received other ++ cond (other == id) bytes []
-
   no_bytes : (bytes : List ℕ) → bytes ≡ [] → AreReceived (with_received id bytes a) log (slots_of s)
   no_bytes bytes none = same_account a _ log (slots_of s)
       (λ other. given_none (other == id) (a.received other) ∙ ap (λ (ys : List ℕ). a.received other ++ cond (other == id) ys []) (sym none)) x
@@ -58,9 +32,7 @@ module _ (a : Account) (log : Log) (id n : ℕ) (s : DriverState) (x : AreReceiv
   -- A connection of the table.
   module _ (e : DriverEntry) (sound : IsTable s.table) (known : entry_known_as id s ≡ Some e) where
     bytes_are : bytes_got (recv_of id n s) (unread_of_id id s) ≡ take n e.value.unread
-    bytes_are =
-        ap (λ (r : Received). bytes_got r (unread_of_id id s)) (recv_known id s e known n)
-        ∙ ap (λ (bytes : List ℕ). bytes_got (entry_answer n e) bytes) (unread_known id s e known) ∙ entry_bytes n e
+    bytes_are = grind (arith, common_steps)
 
     id_is : e.value.id ≡ id
     id_is = let passes = found_passes (is_known_as id) s.table.entries e known in grind (arith, nat_tests, passes)
@@ -103,11 +75,7 @@ read_get id n (g ∷ gs) zero d within = refl
 read_get id n (g ∷ gs) (suc i) d within = read_get id n gs i d (omega (arith, within))
 
 read_id : (id n : ℕ) (g : GoneConnection) → (read_as id n g).id ≡ g.id
-read_id id n g = by (g.id == id)
-  where
-    by : (b : Bool) → (cond b (record g { unread = drop n g.unread }) g).id ≡ g.id
-    by true = refl
-    by false = refl
+read_id id n g = grind (arith, common_steps)
 
 module _ (a : Account) (log : Log) (id n : ℕ) (slots : HeldSlots) (x : AreReceived a log slots) where
   abbrev after : List GoneConnection
@@ -153,10 +121,7 @@ module _ (a : Account) (log : Log) (id n : ℕ) (slots : HeldSlots) (x : AreRece
     old = subst (ReceivedOn a log) is (x.left k g here)
 
     all_there : q g.id ++ drop n g.unread ≡ a.received g.id ++ g.unread
-    all_there =
-        ap (λ (c : Bool). (a.received g.id ++ cond c (take n g.unread) []) ++ drop n g.unread) (ap (λ (j : ℕ). j == id) named ∙ number_same id)
-        ∙ append_assoc (a.received g.id) (take n g.unread) (drop n g.unread)
-        ∙ ap (λ (bytes : List ℕ). a.received g.id ++ bytes) (take-append-drop n g.unread)
+    all_there = grind (arith, common_steps)
 
     now_drains : DrainsTo (not g.end.own.receive) (q g.id) (drop n g.unread) (a.opened g.id) log
     now_drains =

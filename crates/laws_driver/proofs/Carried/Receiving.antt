@@ -4,7 +4,7 @@ use Rattle.std.proofs.Common.{◌≡◌, ◌≢◌, ℕ, ◌<◌, ◌≤◌, ◌
 use Rattle.std.{proofs.{Math.Path.fun_ext, lemmas.{Bool.Decides.nat_tests, Grind.common_steps, List.Elements.All-contains}}, specs.List.All}
 use Rattle.vs_flow.{specs.{Connection.Connection, Table.IsTable, declared.flow.Flow.Flow}, proofs.Entries.same_flow_false}
 use Rattle.vs_page.{specs.{Fair.{IsPrefixOf, current, number_of, payload_got}, Log.{Driver, Log}}, proofs.{Flows.same_self}}
-use Rattle.vs_driver_parts.{specs.{State.{DriverConnection, DriverEntry, GoneConnection}, Held.{HeldSlots, with_connection_in}, SlotFields.AreNumbered}, proofs.Ids.HasId}
+use Rattle.vs_driver_parts.specs.{State.{DriverConnection, DriverEntry, GoneConnection}, Held.{HeldSlots, with_connection_in}, SlotFields.AreNumbered}
 use Rattle.vs_driver_parts.proofs.{Ids.value_of, Numbers.{id_there, numbers_with_value}}
 use Rattle.laws_driver.specs.Carried.Received.{Account, AreReceived, DrainsTo, EndsClean, ReceivedOn, ReceivesOn, keeps_all}
 
@@ -12,16 +12,7 @@ use Rattle.laws_driver.specs.Carried.Received.{Account, AreReceived, DrainsTo, E
 pub in_slots : (a : Account) (log : Log) (slots new : HeldSlots) → AreReceived a log slots → new.next_id ≡ slots.next_id
     → AreNumbered a.first_id new.next_port new.next_id new.table new.gone → All (ReceivesOn a log) new.table.entries → All (ReceivedOn a log) new.gone
     → AreReceived a log new
-in_slots a log slots new x next numbers held left = record {
-  numbers = numbers;
-  front = x.front;
-  held = held;
-  left = left;
-  passed = x.passed;
-  once = x.once;
-  rising = x.rising;
-  fresh = λ id less. x.fresh id (omega (arith, less, next));
-}
+in_slots a log slots new x next numbers held left = grind (arith, common_steps)
 
 -- Other flows are kept.
 pub in_clean : (a : Account) (log : Log) (slots : HeldSlots) (clean : List Flow) → AreReceived a log slots
@@ -122,10 +113,7 @@ module _ (a : Account) (q : ℕ → List ℕ) (log new : Log) (e : DriverEntry) 
     was = All-contains (ReceivesOn a log) slots.table.entries e x.held there
 
     given : e.value.id < slots.next_id
-    given =
-        let id = All-contains (HasId a.first_id) slots.table.entries e x.numbers.slots there in
-        let slot = All-contains (λ (y : DriverEntry). y.slot < slots.table.given) slots.table.entries e sound.were_given there in
-        omega (arith, id, slot, x.numbers.given)
+    given = grind (arith, common_steps)
 
     other_id : (y : DriverEntry) → y.flow ≢ e.flow → ReceivesOn a log y → y.value.id ≢ e.value.id
     other_id y other on same = other (ap (λ (c : Connection). c.flow) (sym on.present ∙ ap a.opened same ∙ was.present))

@@ -1,23 +1,18 @@
 -- What was sent on each connection, by the ids that calls named.
-use Rattle.laws_tables.{specs.Drains.{is_same, only_on}, proofs.Slots.found_by}
-use Rattle.std.proofs.Common.{◌≡◌, inl, inr, ℕ, ◌≤◌, Bool, true, false, cond, List, [], ◌∷◌, ◌++◌, Option, Some, None, refl, sym, ap, subst, ◌∙◌, arith}
-use Rattle.std.{proofs.lemmas.{Bool.Decides.nat_tests, List.Elements.All-contains}, specs.Prelude.is_some}
+use Rattle.laws_tables.{specs.Drains.only_on, proofs.Slots.found_by}
+use Rattle.std.proofs.{Common.{◌≡◌, inl, inr, ℕ, ◌≤◌, List, [], ◌∷◌, ◌++◌, Option, Some, None, refl, sym, ap, subst, ◌∙◌, arith}, lemmas.Grind.common_steps}
+use Rattle.std.proofs.lemmas.{Bool.Decides.nat_tests, List.Elements.All-contains}
 use Rattle.vs_contents.specs.CallTree.{Done}
 use Rattle.vs_flow.{specs.Connection.Connection, proofs.Entries.found_passes}
 use Rattle.vs_page.specs.{Fair.{current, payload_put}, Log.{Driver, Log}}
 use Rattle.vs_ring_port.specs.Contents.{RingContents}
 use Rattle.vs_driver_parts.specs.{declared.answers.Sent.Sent, Conversations.{DriverTree, not_sent, send_on}, Playing.Plays, Steps.sends_on, State.{DriverEntry, DriverState}}
-use Rattle.vs_driver_parts.specs.State.{entry_known_as, gone_known_as, is_known_as}
+use Rattle.vs_driver_parts.specs.State.{entry_known_as, is_known_as}
 use Rattle.laws_driver.specs.{Honest.slots_of, Carried.Calls.{GuestCall, Journal, ReplyTo, Send, bytes_sent, id_named, makes_call, sent_of, whole_call, with_call}}
 use Rattle.laws_driver.specs.Carried.{Received.{Account, AreReceived, ReceivesOn}, Sent.took, Senders.{AreSenders, IsSender, IsSent, sent_there, sent_to}}
-use Rattle.vs_driver_parts.specs.declared.answers.Sent.TheVariants as sent
 
 pub only_none : (at c : Connection) (bytes : List ℕ) → bytes ≡ [] → only_on at bytes c ≡ []
-only_none at c bytes none = by (is_same c at)
-  where
-    by : (b : Bool) → cond b bytes [] ≡ []
-    by true = none
-    by false = refl
+only_none at c bytes none = grind (arith, common_steps)
 
 pub there_none : (opened : ℕ → Connection) (c : Connection) (named : Option ℕ) (bytes : List ℕ) → bytes ≡ [] → sent_there opened c named bytes ≡ []
 there_none opened c None bytes none = refl
@@ -31,14 +26,10 @@ Says s log now call reply = IsSender now (id_named call s) (bytes_sent call repl
 -- Other connections, where those that ids had stay.
 module _ (a b : ℕ → Connection) (stay : (id : ℕ) → 1 ≤ (a id).number → b id ≡ a id) where
   same_there : (c : Connection) (named : Option ℕ) (bytes : List ℕ) → IsSender a named bytes → sent_there a c named bytes ≡ sent_there b c named bytes
-  same_there c named bytes (inl none) = there_none a c named bytes none ∙ sym (there_none b c named bytes none)
-  same_there c (Some id) bytes (inr some) = ap (λ (k : Connection). only_on k bytes c) (sym (stay id some))
-  same_there c None bytes (inr never) = absurd never
+  same_there c named bytes h = grind (arith, common_steps)
 
   still_sender : (named : Option ℕ) (bytes : List ℕ) → IsSender a named bytes → IsSender b named bytes
-  still_sender named bytes (inl none) = inl none
-  still_sender (Some id) bytes (inr some) = inr (subst (λ (k : Connection). 1 ≤ k.number) (sym (stay id some)) some)
-  still_sender None bytes (inr never) = absurd never
+  still_sender named bytes h = grind (arith, common_steps)
 
   still_senders : (journal : Journal) → AreSenders a journal → AreSenders b journal
   still_senders [] are = tt
@@ -72,11 +63,7 @@ module _ (a b : ℕ → Connection) (stay : (id : ℕ) → 1 ≤ (a id).number �
 module _ (s : DriverState) (c d : RingContents) (a : Account) (log : Log) (account : AreReceived a log (slots_of s))
     (now : ℕ → Connection) (stay : (id : ℕ) → 1 ≤ (a.opened id).number → now id ≡ a.opened id) where
   unknown_none : (bytes : List ℕ) (id : ℕ) → took bytes (not_sent id s) ≡ []
-  unknown_none bytes id = by (is_some (gone_known_as id s))
-    where
-      by : (b : Bool) → took bytes (cond b sent.Reset sent.Unknown) ≡ []
-      by true = refl
-      by false = refl
+  unknown_none bytes id = grind (arith, common_steps)
 
   abbrev put_by : Option DriverEntry → List ℕ → Connection → List ℕ
   put_by o bytes k = elim o as (λ _. List ℕ) [ None ↦ [] | Some e ↦ only_on (current Driver e.flow log) bytes k ]

@@ -1,18 +1,16 @@
 -- The payload that the driver's calls put.
+use Rattle.std.proofs.{Common.arith, lemmas.Grind.common_steps}
 use Rattle.laws_tables.{proofs.Adding.{put_over_got, put_adds}, specs.{Drains.only_on, Steps.payload_on}}
-use Rattle.std.proofs.Common.{◌≡◌, ℕ, zero, suc, Bool, true, false, cond, List, [], ◌∷◌, ◌++◌, length, take, Option, Some, None, Result, Ok, Err, ◌||◌, refl, sym, ap, subst, ◌∙◌}
-use Rattle.std.{proofs.Common.append-nil, specs.Prelude.{find, is_some}}
-use Rattle.vs_contents.specs.CallTree.{Done}
-use Rattle.vs_conn.specs.{End.{ConnectionEnd, state_may_send}, declared.end.{State.State, Stop.Stop}}
-use Rattle.vs_credit.specs.Credit.{free_of}
+use Rattle.std.proofs.Common.{◌≡◌, ℕ, true, List, [], ◌∷◌, ◌++◌, length, take, Option, Some, None, refl, sym, ap, subst, ◌∙◌}
+use Rattle.std.{proofs.Common.append-nil, specs.Prelude.find}
+use Rattle.vs_conn.specs.declared.end.Stop.{Stop}
 use Rattle.vs_flow.specs.{Connection.Connection, Table.Table}
 use Rattle.vs_page.{proofs.PayloadLogs.put_none, specs.{Fair.{IsFairLog, current, payload_put}, Log.{Driver, Log}, declared.log.LogEntry.TheVariants.PutPacket}}
 use Rattle.vs_ring_port.specs.{Contents.RingContents, EndLog.EndLog}
-use Rattle.vs_driver_parts.specs.{Conversations.{DriverTree, no_credit, not_sent, poll_of, send_of, send_on, send_stopped, send_with_credit}, State.{DriverEntry, DriverState}}
-use Rattle.vs_driver_parts.specs.{State.{entry_known_as, DriverConnection, gone_known_as, is_known_as}, declared.answers.{Polled.Polled, Sent.Sent}, Playing.Plays}
+use Rattle.vs_driver_parts.specs.{Conversations.{no_credit, not_sent, poll_of, send_of, send_stopped}, State.{DriverEntry, DriverState}}
+use Rattle.vs_driver_parts.specs.{State.{entry_known_as, DriverConnection, is_known_as}, declared.answers.{Polled.Polled, Sent.Sent}, Playing.Plays}
 use Rattle.laws_driver.{specs.{Honest.IsHonestWith, Carried.Sent.{PutsJust, none_on, sent_by, took}}, proofs.{Carrying.{Carries, Fact, Holds}, Calls.CarriesSend}}
 use Rattle.laws_driver.proofs.{Keeping.keeps_end, Polling.poll_keeps, Ringing.at_rest, Staging.Rests, Carried.Growing.honest_stays}
-use Rattle.vs_conn.specs.declared.end.State.TheVariants as state
 use Rattle.vs_conn.specs.declared.end.Stop.TheVariants as stop
 use Rattle.vs_driver_parts.specs.declared.answers.Sent.TheVariants as sent
 
@@ -53,9 +51,7 @@ poll_sent first s c d x honest plays = λ on l is m told k.
 
 -- send.
 front_of : (m : ℕ) (xs : List ℕ) → take (length (take m xs)) xs ≡ take m xs
-front_of zero xs = refl
-front_of (suc m) [] = refl
-front_of (suc m) (x ∷ xs) = ap (λ (ys : List ℕ). x ∷ ys) (front_of m xs)
+front_of m xs = grind (arith, common_steps)
 
 stop_none : (bytes : List ℕ) (why : Stop) → took bytes (send_stopped why) ≡ []
 stop_none bytes stop.NotOpen = refl
@@ -70,28 +66,12 @@ module _ (first id : ℕ) (bytes : List ℕ) (s : DriverState) (log : Log) where
   abbrev pub after : Sent → Fact
   after answer part slots now = (c : Connection) → payload_put Driver c now ≡ payload_put Driver c log ++ sent_by id bytes answer s log c
 
-  on_none : (b : Bool) (taken : List ℕ) → taken ≡ [] → cond b taken [] ≡ []
-  on_none true taken none = none
-  on_none false taken none = refl
-
-  none_sent : (o : Option DriverEntry) (taken : List ℕ) (c : Connection) → taken ≡ []
-      → elim o as (λ _. List ℕ) [ None ↦ [] | Some e ↦ only_on (current Driver e.flow log) taken c ] ≡ []
-  none_sent None taken c none = refl
-  none_sent (Some e) taken c none = on_none _ taken none
-
   nothing_sent : (answer : Sent) (now : Log) → took bytes answer ≡ [] → now ≡ log → (c : Connection)
       → payload_put Driver c now ≡ payload_put Driver c log ++ sent_by id bytes answer s log c
-  nothing_sent answer now none is c =
-      ap (payload_put Driver c) is
-      ∙ sym (ap (λ (xs : List ℕ). payload_put Driver c log ++ xs) (none_sent (entry_known_as id s) (took bytes answer) c none)
-      ∙ append-nil (payload_put Driver c log))
+  nothing_sent answer now none is c = grind (arith, common_steps)
 
   unknown_none : (t : DriverState) → took bytes (not_sent id t) ≡ []
-  unknown_none t = by (is_some (gone_known_as id t))
-    where
-      by : (b : Bool) → took bytes (cond b sent.Reset sent.Unknown) ≡ []
-      by true = refl
-      by false = refl
+  unknown_none t = grind (arith, common_steps)
 
   -- Payload is put.
   some_sent : (e : DriverEntry) (n : ℕ) (t : DriverState) → let p = payload_on Driver t.cid e.flow e.value.end (take n bytes) in
@@ -121,23 +101,6 @@ module _ (first id : ℕ) (bytes : List ℕ) (s : DriverState) (log : Log) where
   }
 
 -- An end that has decided to send no more takes nothing.
-stopped_by : (st : State) (e : ConnectionEnd) → e.own.send ≡ true → (why : Stop) × (state_may_send st e ≡ Err why)
-stopped_by state.Live e shut = (stop.ShutDown, ap (λ (b : Bool). cond (b || e.peer.receive) (Err stop.ShutDown) (Ok (free_of e.credit))) shut)
-stopped_by state.Ended e shut = (stop.Reset, refl)
-stopped_by state.Asked e shut = (stop.NotOpen, refl)
-stopped_by state.Answering e shut = (stop.NotOpen, refl)
-
 pub shut_sent : (id : ℕ) (bytes : List ℕ) (e : DriverEntry) (s : DriverState) (c d : RingContents) (x : DriverState × Sent)
     → entry_known_as id s ≡ Some e → e.value.end.own.send ≡ true → Plays (send_of id bytes s) c x d → took bytes x.1 ≡ []
-shut_sent id bytes e s c d x known shut plays =
-    let stops = stopped_by e.value.end.state e.value.end shut in
-    let P : Option DriverEntry → Type 0 = λ o. Plays (elim o as (λ _. DriverTree (DriverState × Sent)) [
-      | None ↦ Done (s, not_sent id s)
-      | Some e ↦ send_on e bytes s
-    ]) c x d in
-    let Q : Result ℕ Stop → Type 0 = λ r. Plays (elim r as (λ _. DriverTree (DriverState × Sent)) [
-      | Err why ↦ Done (s, send_stopped why)
-      | Ok credit ↦ send_with_credit e credit bytes s
-    ]) c x d in
-    let done : Q (Err stops.0) = subst Q stops.1 (subst P known plays) in
-    ap (λ (y : DriverState × Sent). took bytes y.1) (sym done.0) ∙ stop_none bytes stops.0
+shut_sent id bytes e s c d x known shut plays = grind (arith, common_steps)
