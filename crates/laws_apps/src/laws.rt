@@ -13,8 +13,8 @@ ghost use Rattle.laws_apps.specs.{Accounts.IsAccounted, Ports.GivesPortsWith, Ru
 ghost use Rattle.vs_limits.specs.declared.TheConstants.{LAST_PORT};
 
 /// A call that was made, and a poll, keep the journal's account right: what was sent on each connection is the payload that the log put, and
-/// what was received on it, with the bytes that are unread behind, the payload that was delivered until its end, as long as no app said that
-/// it receives no more there or closed it, and a prefix of that in any case (Virtio 1.2, section 5.10.6.3).
+/// what was received on it, with the bytes that are unread behind, the payload that was got until its end, as long as no app said that it
+/// receives no more there or closed it, and a prefix of that in any case (Virtio 1.2, section 5.10.6.3).
 pub fn law_of_accounts()
     ensures call { (first first_id : ℕ) (journal : Journal) (entries : List Entry) (call : GuestCall) (s : DriverState) (c d : RingContents)
         (x : DriverState × ReplyTo call) → is_right call ≡ true → IsHonestWith true first s c → IsAccounted first_id journal entries s c

@@ -31,9 +31,9 @@ AllFit (p ∷ ps) = FitsWire p.header × AllFit ps
 abbrev pub PutsFit : Log → Type 0
 PutsFit log = AllFit (packets_put log)
 
--- What is carried: whether the host's streams are told of, and whether its listeners stay as they are, which other chains may be held, which flows the device may ask for, those with the
--- host among them, and a fact of the seat that each step keeps. Where the log is plain, which each one before it then was, no payload was
--- dropped that a stream is to be given.
+-- What is carried: whether the host's streams are told of, and whether its listeners stay as they are; which other chains may be held; which
+-- flows the device may ask for, those with the host among them; and a fact of the seat that each step keeps. Where the log is plain, which each
+-- one before it then was, no payload was dropped that a stream is to be given.
 pub record Carried : Type 1 where
   pub ok : Type 0
   pub stay : Bool

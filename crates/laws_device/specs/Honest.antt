@@ -142,8 +142,8 @@ pub record IsClients (e : DeviceEntry) : Type 0 where
   pub by_client : e.value.by_client ≡ true
   pub asker : side_of Device e.flow ≡ Asker
 
--- Where an honest ring tells its log: a connection on which nothing more is put, by the device as it was, is one by the device as it is, and nothing
--- was put there. Beside each stands the next host port to be assigned.
+-- Where an honest ring tells its log: a connection on which no more payload is put, by the device as it was, is one by the device as it is, and
+-- no payload was put there. Beside each stands the next host port to be assigned.
 abbrev pub StaysPast : Connection → ℕ → DeviceState → RingContents → ℕ → DeviceState → RingContents → Type 0
 StaysPast c port s old next t new = old.honest ≡ true → ForSome old.log (λ l. ForSome new.log (λ m.
     IsPast Device c (record { part = ends_of_state port s; log = l.entries })

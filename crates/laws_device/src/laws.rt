@@ -120,8 +120,8 @@ pub fn law_of_logs<T>()
         → ForSome a.ring.log (λ l. ForSome b.ring.log (λ m. StaysShut Device l.entries m.entries)) }
 {}
 
-/// What the device decided to send no more on, told or not: over an honest ring that tells its log no call puts payload on that connection any
-/// more, also where its flow is used again (Virtio 1.2, section 5.10.6.5).
+/// What the device decided to send no more on, told or not: over an honest ring that tells its log no call that uses ring or host, but `open`,
+/// puts payload on that connection any more, also where its flow is used again (Virtio 1.2, section 5.10.6.5).
 pub fn law_of_decisions()
     ensures take_tx { (first port : ℕ) (k : Connection) (s : DeviceState) (a b : Situation) (x : DeviceState × Taken) → IsWith first port s a.ring
         → Runs (take_tx_of s) a x b → StaysPast k port s a.ring port x.0 b.ring }

@@ -28,8 +28,8 @@ pub fn law_of_sent()
 {}
 
 /// Any conversation of the driver, over any ring: a log that is told is told with more entries. Over an honest ring no more payload is put
-/// on a connection after the SHUTDOWN that says 'no more is sent'; nor, by no call, once its end decided so, told or not, also where its flow
-/// is used again (Virtio 1.2, section 5.10.6.5).
+/// on a connection after the SHUTDOWN that says 'no more is sent'; nor, where the guest asked the host alone, by any call or poll once its end
+/// decided so, told or not, also where its flow is used again (Virtio 1.2, section 5.10.6.5).
 pub fn law_of_logs<T>()
     ensures grows { (tree : DriverTree T) (c d : RingContents) (x : T) → Plays tree c x d → TellsMore c.log d.log }
     ensures shut { (tree : DriverTree T) (c d : RingContents) (x : T) → IsSound Driver c → Plays tree c x d → c.honest ≡ true
@@ -42,8 +42,9 @@ pub fn law_of_logs<T>()
         → IsHonestWith true first s c → Plays (poll_of s) c x d → StaysPast k s x.0 c d }
 {}
 
-/// What an application received on a connection, and then the bytes that are unread, is the payload delivered to it. A receive gives of the
-/// unread bytes the first; a send and the calls that make no use of the ring give none (Virtio 1.2, section 5.10.6.3).
+/// What an application received on a connection, and then the bytes that are unread, is the payload got on it up to its end, until the
+/// application says that it receives no more or closes it, and a prefix of that always. A receive gives of the unread bytes the first; a send
+/// and the calls that make no use of the ring give none (Virtio 1.2, section 5.10.6.3).
 pub fn law_of_received()
     ensures new { (size port id : ℕ) (c d : RingContents) (s : DriverState) → port ≤ LAST_PORT → IsFresh c → Plays (new_of size port id) c s d
         → IsReceivedWith (no_account id) s d }

@@ -56,8 +56,8 @@ IsCompleteExchange opened journal h acts p (ending.Waited waits.Empty at) =
 IsCompleteExchange opened journal h acts p e = Unit {0}
 
 -- Both tables have as many entries as there are streams with a label that the proxy hasn't closed; so each wait; what was done is so; what each connect and
--- accept was given; and each connection of a client that has a line has its stream, as has each of the guest's, under the proxy's base path, where no fault was
--- counted and no packet was dropped.
+-- accept was given; and each connection of a client that has a line has its stream, as has each of the guest's at whose port the host listens, under the
+-- proxy's base path, unless 64 streams have a label, where no fault was counted and no packet was dropped.
 pub record IsCompleteRun (script : RunScript) (apps : List AppState) (entries : List Entry) (bytes : List ℕ) (t : Totals) (base : List ℕ)
     (opened : ℕ → Connection) (h : HostContents) : Type 0 where
   pub guest_open : t.guest_open ≡ length (open_labels h)

@@ -33,7 +33,7 @@ abbrev pub is_unaccepted : (ℕ → Connection) → List Opened → HostContents
 is_unaccepted opened lines h id =
     option_map_or (λ s. s.by_client) (stream_at id h) false && option_map_or (λ c. not (has_line opened lines c)) (connection_at id h) false
 
--- All slots of the driver are held: by those that have lines, and by clients' that nobody accepted.
+-- All slots of the driver are held: by those that have lines, and by clients' that nobody accepted, of which all count, those too that hold none.
 abbrev pub LacksPlace : (ℕ → Connection) → Journal → List Opened → HostContents → Type 0
 LacksPlace opened journal lines h =
     DRIVER_CONNECTIONS ≤ length (filter (holds_slot opened journal h) lines)

@@ -1,4 +1,4 @@
--- A log with more entries, and a connection that is shut.
+-- A log with more entries, a flow that is shut, and a connection on which no more payload is put.
 use Rattle.std.specs.{List.list_any, Prelude.{◌≡◌, ◌≤◌, ◌&&◌, Bool, not, false, true, length, ◌++◌}}
 use Rattle.vs_conn.specs.End.{CanSend, ConnectionEnd}
 use Rattle.vs_flow.specs.{Connection.Connection, Flow.same_flow, declared.flow.Flow.Flow}
@@ -37,7 +37,7 @@ pub record StillShut (role : Role) (f : Flow) (old new : Seat) : Type 0 where
   pub is : IsShut f new
   pub put : put_on role f new.log ≡ put_on role f old.log
 
--- A connection on which nothing is put any more: a newer one of its flow began, or its end is none that may, its REQUEST put or got.
+-- A connection on which no more payload is put: a newer one of its flow began, or its end is none that may, its REQUEST put or got.
 abbrev pub may_put : ConnectionEnd → Bool
 may_put e = not (is_new e) && may_send_more e
 
@@ -45,7 +45,7 @@ pub record IsPast (role : Role) (c : Connection) (w : Seat) : Type 0 where
   pub past : c.number ≤ number_of role c.flow w.log
   pub shut : c.number ≡ number_of role c.flow w.log → list_any may_put (ends_of c.flow w.part.entries) ≡ false
 
--- So it still is, and nothing was put there.
+-- So it still is, and no payload was put there.
 pub record StillPast (role : Role) (c : Connection) (old new : Seat) : Type 0 where
   pub is : IsPast role c new
   pub put : payload_put role c new.log ≡ payload_put role c old.log

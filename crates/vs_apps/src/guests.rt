@@ -66,7 +66,7 @@ impl<N: RunName> Model for Guests<N> {
 
 /// What the type says of guests: their driver was made under the first CID of shared rings. The calls of each app are, in order, its
 /// instructions. What the journal says was sent on a connection is the payload that the log put there; and what it says was received, with
-/// the bytes that are unread behind, is the payload that was delivered, until an app says that it receives no more there or closes it. The
+/// the bytes that are unread behind, is the payload that was got there, until an app says that it receives no more there or closes it. The
 /// connections that connects opened have, the oldest first, the guest ports from the first on, one after another up to the last port. All
 /// receive and event pages are in flight.
 pub fn laws_of_guests<N: RunName>(guests: &Guests<N>)
@@ -158,7 +158,7 @@ impl<N: RunName> Guests<N> {
     }
 
     /// A step of app `k`, counted from 0: a poll, and then the calls of the instruction that the app is at. It answers too whether the poll took
-    /// or put anything. Nothing is done where memory is wanted.
+    /// or put anything. Nothing is done where memory is wanted, or the bytes of the run can't be counted in 64 bits.
     pub fn step(&mut self, k: usize) -> (Stepped, bool)
         requires { k < length N.script }
         ensures { Steps N.script k result.0 result.1 (run_in self.old) (run_in self.new) }

@@ -265,7 +265,8 @@ fn has_moved(polled: Polled) -> bool
 }
 
 /// A step of an app: a poll, and then the calls of the instruction that the app is at, each noted in the journal unless it told to wait; where
-/// all told so, the wait is noted. Nothing is done where memory is wanted. It answers too whether the poll moved anything. Bytes go by way of the buffer.
+/// all told so, the wait is noted. Nothing is done where memory is wanted, or the bytes of the run can't be counted in 64 bits. It answers too
+/// whether the poll moved anything. Bytes go by way of the buffer.
 pub fn step<R: DriverRing>(
     driver: &mut Driver,
     ring: &mut R,

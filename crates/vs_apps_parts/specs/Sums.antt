@@ -36,7 +36,8 @@ given_on id bytes (e ∷ es) = given_by id bytes e ++ given_on id bytes es
 abbrev pub kept_of : Option Excerpt → Excerpt
 kept_of o = unwrap_or o (excerpt_of [])
 
--- So many bytes came in all; those of each entry are among them; and the excerpt of each connection is that of its bytes, which are no more.
+-- So many bytes came in all; those of each entry are among them; and the excerpt of each connection is that of its bytes, which are no
+-- more than all.
 pub record IsSummed (count : ℕ) (bytes : List ℕ) (entries : List Entry) (excerpt : ℕ → Option Excerpt) : Type 0 where
   pub counts : count ≡ length bytes
   pub stands : AllStandIn (length bytes) entries

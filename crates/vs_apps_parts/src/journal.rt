@@ -122,8 +122,8 @@ pub struct Entry {
     pub deed: Deed,
 }
 
-/// The journal: its entries, oldest first, and the bytes that all receives gave, in their order. Of the bytes it keeps an excerpt for each connection on
-/// which some came, and no more.
+/// The journal: its entries, oldest first, and the bytes that all receives gave, in their order. Of the bytes it keeps an excerpt for each
+/// connection on which some came, and no more.
 #[derive(Drop)]
 pub struct Journal {
     entries: Vec<Entry>,
@@ -132,6 +132,7 @@ pub struct Journal {
     count: usize,
     // What is kept of the bytes of each connection.
     excerpts: IndexMap<ConnId, Excerpt>,
+    // How many calls and waits may be noted without memory.
     room: usize,
 }
 

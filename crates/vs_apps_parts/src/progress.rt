@@ -47,7 +47,7 @@ pub enum Stepped {
     Waiting(WaitsFor),
     /// Nothing: all instructions are done.
     Done,
-    /// Nothing, for want of memory.
+    /// Nothing, for want of memory, or since the bytes of the run can't be counted in 64 bits.
     OutOfMemory,
 }
 

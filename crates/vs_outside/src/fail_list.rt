@@ -47,7 +47,7 @@ impl FailList {
         !self.calls.is_empty() && self.use_up()
     }
 
-    // The same, where a call is to fail.
+    // The same, where the list isn't empty.
     #[cold]
     fn use_up(&mut self) -> bool
         ensures answer { result ≡ fails_next self.old }

@@ -174,7 +174,8 @@ pub record HasLabel (at : ℕ → Option Seen) (id : ℕ) : Type 0 where
   pub label : stream.label ≡ Some connection
 
 -- No two streams are of one connection, the streams with a flow as label have all numbers up to their count, and each id that is listed is
--- that of a stream with a label, of which there are as many as slots that were given. On a connection without a stream no payload was put.
+-- that of a stream with a label, of which there are at least as many as slots that were given. On a connection without a stream no payload was
+-- put.
 pub record AreLabelled (at : ℕ → Option Seen) (labelled : List ℕ) (count : Flow → ℕ) (log : Log) (port : Ports) (hands : List Handshake)
     : Type 0 where
   pub labels : (id : ℕ) (s : Seen) (c : Connection) → at id ≡ Some s → s.label ≡ Some c → IsLabelled s c count log port

@@ -1,4 +1,4 @@
--- What an application received on the driver's connections, against the payload that was delivered to them.
+-- What an application received on the driver's connections, against the payload that was got on them.
 use Rattle.std.specs.{List.All, Option.ForSome, Prelude.{◌≡◌, ℕ, ◌≤◌, ◌<◌, ◌==◌, ◌++◌, ◌&&◌, ◌||◌, not, Bool, true, false, if◌then◌else◌, List, [], ◌∷◌, take}}
 use Rattle.vs_conn.specs.{End.is_open, declared.end.State.TheVariants.{Ended}}
 use Rattle.vs_flow.specs.{Connection.Connection, Flow.host_flow, declared.flow.Flow.Flow}
@@ -78,7 +78,7 @@ pub record ReceivedOn (a : Account) (log : Log) (g : GoneConnection) : Type 0 wh
   pub drains : DrainsTo (not g.end.own.receive) (a.received g.id) g.unread (a.opened g.id) log
 
 -- The account is right: so are the connections of the table, and those that are gone. What was received on any id is a prefix of the payload
--- delivered to its connection. The connections of ids have passed, no two of them are one; ids that are still to be given have none.
+-- got on its connection. The connections of ids have passed, no two of them are one; ids that are still to be given have none.
 pub record AreReceived (a : Account) (log : Log) (slots : HeldSlots) : Type 0 where
   pub numbers : AreNumbered a.first_id slots.next_port slots.next_id slots.table slots.gone
   pub front : (id : ℕ) → IsPrefixOf (a.received id) (payload_got Driver (a.opened id) log)

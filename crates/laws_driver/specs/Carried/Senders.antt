@@ -33,8 +33,8 @@ pub record IsSent (opened : ℕ → Connection) (journal : Journal) (log : Log) 
   pub senders : AreSenders opened journal
   pub puts : (c : Connection) → payload_put Driver c log ≡ sent_to opened c journal
 
--- A journal is right by this log, where ids were given to these connections: what it says was sent and received is what was put, and what was
--- delivered.
+-- A journal is right by this log, where ids were given to these connections: what it says was sent and received is what was put, and what
+-- was got.
 pub record IsRightJournal (first_id : ℕ) (opened : ℕ → Connection) (journal : Journal) (log : Log) (slots : HeldSlots) : Type 0 where
   pub received : AreReceived (account_of first_id opened journal) log slots
   pub sent : IsSent opened journal log

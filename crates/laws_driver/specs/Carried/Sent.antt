@@ -34,8 +34,8 @@ abbrev pub PutsJust : (Log → Connection → List ℕ) → RingContents → Rin
 PutsJust more old new = old.honest ≡ true → ForSome old.log (λ l. ForSome new.log (λ m.
     (c : Connection) → payload_put Driver c m.entries ≡ payload_put Driver c l.entries ++ more l.entries c))
 
--- Where an honest ring tells its log: a connection on which nothing more is put, by the driver as it was, is one by the driver as it is, and nothing
--- was put there.
+-- Where an honest ring tells its log: a connection on which no more payload is put, by the driver as it was, is one by the driver as it is, and
+-- no payload was put there.
 abbrev pub StaysPast : Connection → DriverState → DriverState → RingContents → RingContents → Type 0
 StaysPast c s t old new = old.honest ≡ true → ForSome old.log (λ l. ForSome new.log (λ m. IsPast Driver c (record { part = ends_of_state s; log = l.entries })
     → StillPast Driver c (record { part = ends_of_state s; log = l.entries }) (record { part = ends_of_state t; log = m.entries })))
