@@ -4,7 +4,7 @@ use Rattle.std.proofs.Common.{◌≡◌, ◌-◌, ◌≤◌, ◌==◌, ◌&&◌,
 use Rattle.std.proofs.{Common.{refl, sym, ap, subst, ◌∙◌, arith, length-append, length-drop, length-take}, lemmas.{Bool.Decides.nat_tests, List.Elements.All-contains}}
 use Rattle.std.proofs.lemmas.List.Elements.{All-filter, All-map, All-push}
 use Rattle.vs_contents.specs.{CallTree.{Ask, Done, bind}, Contents.Exposes}
-use Rattle.vs_conn.specs.End.{answering, asked, is_of, is_reset, paid_of, verdict_of, wanting_credit, with_payload_sent, end_after, owes_of, with_shut}
+use Rattle.vs_conn.specs.End.{answering, asked, is_of, is_reset, paid_of, verdict_of, wanting_credit, with_payload_sent, owes_of}
 use Rattle.vs_conn.specs.declared.end.{Owed.Owed, Verdict.Verdict}
 use Rattle.vs_flow.specs.{Flow.is_assigned, Table.{Table, entry_of, has_place, next_entry, revalued, with_entry, with_value, without}, declared.flow.Flow.Flow}
 use Rattle.vs_header.specs.{Op.op_number, Packet.header_of, declared.{Header.Header, Kind.TheVariants.Stream, Op.TheVariants.Request, TheConstants.HEADER_LEN}}
@@ -23,8 +23,7 @@ use Rattle.laws_device.{specs.{Honest.HoldsBytes, Walk.Seen.Seen}, proofs.{Ringi
 use Rattle.laws_device.proofs.{Named.Keeping.{asking, keeps_end}, Walk.{Keeping.{Asking, Keeps, keeps_if, keeps_some, keeps_then}, Serving.{AfterRead, AfterWrite, Closes, Fills}}}
 use Rattle.laws_device.proofs.Walk.{Serving.{IsIn, Writes, by_flow, keeps_fill_rx, keeps_leaving, keeps_pay_event, keeps_pump, keeps_tick}, Turning.{AfterAccept, AfterByte}}
 use Rattle.laws_device.proofs.Walk.Turning.{Between, Ends, Shakes, keeps_turn_by}
-use Rattle.laws_tables.specs.Drains.{delivered}
-use Rattle.laws_rest.{proofs.Unread.{hears, pays, shuts, writes}}
+use Rattle.laws_rest.{proofs.Unread.{pays, writes}}
 use Rattle.laws_settled.specs.Exact.{AreExact, HoldsExactly}
 use Rattle.vs_conn.specs.declared.end.Verdict.TheVariants as verdict
 use Rattle.vs_conn.specs.declared.end.Why.TheVariants as why

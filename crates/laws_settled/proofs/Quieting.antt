@@ -1,7 +1,7 @@
 -- A turn that put nothing.
 use Rattle.std.proofs.lemmas.Grind.{common_steps}
 use Rattle.std.proofs.Common.{◌≡◌, ◌+◌, ◌≤◌, ◌⊎◌, inl, inr, ℕ, Bool, true, false, Option, Some, None, Ok, Err, refl, sym, ap, subst, ◌∙◌, arith}
-use Rattle.std.{proofs.lemmas.Option.same_Some, specs.Option.ForSome}
+use Rattle.std.{specs.Option.ForSome}
 use Rattle.vs_contents.{specs.{CallTree.Done, Contents.Relates}, proofs.Leads.leads_split}
 use Rattle.vs_flow.specs.Table.{IsTable}
 use Rattle.vs_ring_port.specs.{Known.{Known, StopsAt}, declared.{failure.Failure.Failure, queue.Queue.TheVariants.Rx}}
