@@ -1,5 +1,5 @@
 -- The flows of a table that lead to the host.
-use Rattle.std.{proofs.{Common.{◌≡◌, List, [], ◌∷◌, Option, Some, None, refl, sym, ap, ◌∙◌}, lemmas.List.Elements.All-contains}, specs.List.All}
+use Rattle.std.{proofs.{Common.{◌≡◌, [], ◌∷◌, Option, Some, None, refl, sym, ap, ◌∙◌}, lemmas.List.Elements.All-contains}, specs.List.All}
 use Rattle.vs_conn.specs.End.{ConnectionEnd}
 use Rattle.vs_flow.{specs.{declared.{flow.Flow.Flow, table.Entry.Entry}, Table.{Table, entry_of}, Flow.same_flow}, proofs.Entries.same_flow_true}
 use Rattle.vs_limits.specs.declared.TheConstants.{HOST_CID}
