@@ -1,12 +1,11 @@
 -- From a round that moved nothing to ends at rest.
 use Rattle.std.proofs.Common.{◌≡◌, ◌≤◌, ◌<◌, ◌+◌, ◌-◌, ◌||◌, ◌⊎◌, inl, inr, ℕ, nat_lt, Bool, true, false, List, [], ◌∷◌, length, Option, Some, None, Result, Ok, Err, IfOk, refl}
-use Rattle.std.{proofs.{Common.{sym, ap, subst, ◌∙◌, arith}, lemmas.{Bool.Decides.nat_tests, Grind.common_steps, Option.same_Some}}, specs.Option.ForSome}
-use Rattle.vs_contents.specs.Contents.{Exposes, Relates}
+use Rattle.std.{proofs.{Common.{sym, ap, subst, ◌∙◌, arith}, lemmas.{Bool.Decides.nat_tests, Grind.common_steps, Option.same_Some}}}
 use Rattle.vs_flow.specs.Table.{IsTable}
 use Rattle.vs_limits.specs.declared.TheConstants.{FIRST_CID}
 use Rattle.vs_outside.specs.Host.{HostContents}
-use Rattle.vs_page.specs.Log.{Log, events_put}
-use Rattle.vs_ring_port.specs.{Chains.{Held, chains_of, held_of}, Contents.{Given, RingContents}, Counts.Counts, EndLog.EndLog, DeviceCalls.{DeviceAllows, DeviceLearns}}
+use Rattle.vs_page.specs.Log.{events_put}
+use Rattle.vs_ring_port.specs.{Chains.{Held, chains_of, held_of}, Contents.{Given, RingContents}, Counts.Counts, EndLog.EndLog, DeviceCalls.{DeviceAllows}}
 use Rattle.vs_ring_port.specs.{Known.Known, declared.queue.Queue.{Queue, TheVariants.{Event, Rx, Tx}}}
 use Rattle.vs_ring_rule.specs.{Rule.IsFront, declared.view.Past.Past}
 use Rattle.vs_ring_shared.specs.{Meetings.{AreOneTable, SawNoMore, TookFirst, after_hearing, what_it_did}, Sights.{DeviceSight, QueueSight, Sight, device_contents, device_log}}
@@ -109,9 +108,6 @@ pub stays_hears : (s : ProxyState) (e d : DeviceSight) (past : Past) (host : Opt
     → StaysBegun s (situation (device_contents e) host faults) s (situation (device_contents d) host faults)
 stays_hears s e d past host faults is =
     stays_log s (device_contents e) (device_contents d) host faults (ap (λ (x : DeviceSight). Some (device_log x)) is) refl
-
-pub stays_then : (s t u : ProxyState) (a b c : Situation) → StaysBegun s a t b → StaysBegun t b u c → StaysBegun s a u c
-stays_then s t u a b c one two = λ start begun. two start (one start begun)
 
 pub its_ring : (s : DeviceState) (e d : DeviceSight) → d.held ≡ e.held → IsItsRing (chains_of e.held) s → IsItsRing (chains_of d.held) s
 its_ring s e d same its = subst (λ (held : List Held). IsItsRing (chains_of held) s) (sym same) its

@@ -1,4 +1,4 @@
-use Rattle.std.proofs.Common.{◌≤◌, List, arith, refl, subst, sym}
+use Rattle.std.proofs.Common.{List, arith, refl, subst, sym}
 use Rattle.vs_ring_port.specs.declared.device_ring.Chain.{Chain}
 use Rattle.vs_ring_shared.specs.Sights.{device_contents}
 use Rattle.vs_device_parts.specs.Playing.{IsItsRing}
