@@ -235,6 +235,7 @@ impl Journal {
         ensures entries { self.new.entries ≡ wait_noted app why last self.old.entries }
         ensures place { result ≡ wait_place app last self.old.entries }
         ensures bytes { self.new.bytes ≡ self.old.bytes }
+        ensures room { self.new.room + 1 ≡ self.old.room }
     {
         self.room -= 1;
         add_wait(&mut self.entries, last, app, why)
