@@ -175,28 +175,30 @@ keeps_flow role first f part log used own clean m =
     as_kept : (g : Flow) → IsKept role first part log g → IsKept role first (record part { clean = kept CLEAN_PAIRS f part.clean }) log g
     as_kept g k = record { asker = k.asker; no_end = k.no_end; no_reply = k.no_reply; over = k.over }
 
+-- Where an asker put nothing on the present connection, nothing passed.
+has_asked : (h : History) (x : Entry) → IsFair Asker (x ∷ h) → has is_request (puts (x ∷ h)) ≡ true
+has_asked h (Put p) fair = by_put (is_request p) refl
+  where
+    by_put : (b : Bool) → is_request p ≡ b → has is_request (puts (Put p ∷ h)) ≡ true
+    by_put true is = rw is refl
+    by_put false is = rw is (fair.0.begun is)
+has_asked h (Got p) fair = by_got (is_request p) refl
+  where
+    by_got : (b : Bool) → is_request p ≡ b → has is_request (puts (Got p ∷ h)) ≡ true
+    by_got true is = let t = fair.0.timely in absurd (grind (arith, common_steps, is, t))
+    by_got false is = fair.0.begun is
+
+pub silent_fair : (h : History) → [] ≡ puts h → IsFair Asker h → h ≡ []
+silent_fair [] none fair = refl
+silent_fair (x ∷ h) none fair = let both : false ≡ true = ap (has is_request) none ∙ has_asked h x fair in absurd cc
+
 -- A flow that may be asked for is ready.
 silent_none : (role : Role) (first : ℕ) (f : Flow) (log : Log) → IsFairOn role f log → side_of role f ≡ Asker
     → heard_of role first f log ≡ []
     → history_of role f log ≡ []
-silent_none role first f log fair asker silent = by (history_of role f log) (ap puts (sym silent) ∙ heard_puts role first f log)
+silent_none role first f log fair asker silent =
+    silent_fair (history_of role f log) (ap puts (sym silent) ∙ heard_puts role first f log)
     (subst (λ s. IsFair s (history_of role f log)) asker (fair_now role f log fair))
-  where
-    has_asked : (h : History) (x : Entry) → IsFair Asker (x ∷ h) → has is_request (puts (x ∷ h)) ≡ true
-    has_asked h (Put p) fair = by_put (is_request p) refl
-      where
-        by_put : (b : Bool) → is_request p ≡ b → has is_request (puts (Put p ∷ h)) ≡ true
-        by_put true is = rw is refl
-        by_put false is = rw is (fair.0.begun is)
-    has_asked h (Got p) fair = by_got (is_request p) refl
-      where
-        by_got : (b : Bool) → is_request p ≡ b → has is_request (puts (Got p ∷ h)) ≡ true
-        by_got true is = let t = fair.0.timely in absurd (grind (arith, common_steps, is, t))
-        by_got false is = fair.0.begun is
-
-    by : (h : History) → [] ≡ puts h → IsFair Asker h → h ≡ []
-    by [] none fair = refl
-    by (x ∷ h) none fair = let both : false ≡ true = ap (has is_request) none ∙ has_asked h x fair in absurd cc
 
 pub next_clean : (role : Role) (first : ℕ) (f : Flow) (part : Ends) (log : Log) → Matches role first part log → IsFairLog role log
     → IsNextFlow role f part → (history_of role f log ≡ []) ⊎ (phase_of role first f log ≡ Clean)
@@ -308,10 +310,10 @@ sends role first cid f e payload part log m has can fits =
     (send_may_on role first cid f e payload part log m.flows has can fits (fair f) (left.within f)) (left.within f)) m
 
 -- What an end owes: a new one its REQUEST.
-not_request : (e : ConnectionEnd) (what : Owed) → is_new e ≡ false → owes_of e ≡ Some what → what ≢ owed.Request
+pub not_request : (e : ConnectionEnd) (what : Owed) → is_new e ≡ false → owes_of e ≡ Some what → what ≢ owed.Request
 not_request e what old owes is = steps.old_request e old (subst (λ x. owes_of e ≡ Some x) is owes)
 
-owed_no_request : (role : Role) (cid : ℕ) (f : Flow) (e : ConnectionEnd) (what : Owed) → what ≢ owed.Request
+pub owed_no_request : (role : Role) (cid : ℕ) (f : Flow) (e : ConnectionEnd) (what : Owed) → what ≢ owed.Request
     → is_request (owed_on role cid f e what) ≡ false
 owed_no_request = grind (arith, common_steps)
 
