@@ -520,19 +520,26 @@ refuses role first p part log m kept none plain order =
     (λ g apart. (refl, steps.owed_other f g kind part.replies apart)) (old_none f _ none)
     (λ fair all. all_append role (GotPacket p ∷ log) part.replies more all (due_refused role p log plain fair, tt)) m
 
-pub ignores : (role : Role) (first : ℕ) (p : Packet) (part : Ends) (log : Log) → let f = flow_got role p in
+-- An RST that is ignored. On a flow whose port is given and that isn't kept it needn't come in order.
+pub strays : (role : Role) (first : ℕ) (p : Packet) (part : Ends) (log : Log) → let f = flow_got role p in
     Matches role first part log → is_dropped role part.cid p.header ≡ false → HasNone f part → is_rst p ≡ true
-    → IsInOrder (side_of role f) (heard_of role first f log) p → Matches role first part (GotPacket p ∷ log)
-ignores role first p part log m kept none rst order =
+    → IsUsed role f part → Matches role first part (GotPacket p ∷ log)
+strays role first p part log m kept none rst used =
     let f = flow_got role p in
     let h = heard_of role first f log in
     let kind = left_kind role first f log in
-    gets_on role first p part.entries part.replies part log kept (used_by_order role first part log f p m.flows order)
+    gets_on role first p part.entries part.replies part log kept used
     (subst (λ x. IsLeftOn role (side_of role f) x (kind_got p kind) (is_among f (replied part.replies)) (ends_of f part.entries))
     (sym (then_got p h (rst_asks_none p rst)))
     (ignores_on role (side_of role f) h (Got p) kind (kind_got p kind) _ _ (m.flows.on f) none
     (λ closed. ap (kind_got p) closed ∙ got_none p rst) refl))
     (λ g apart. (refl, refl)) (old_none f _ none) (λ fair all. all) m
+
+pub ignores : (role : Role) (first : ℕ) (p : Packet) (part : Ends) (log : Log) → let f = flow_got role p in
+    Matches role first part log → is_dropped role part.cid p.header ≡ false → HasNone f part → is_rst p ≡ true
+    → IsInOrder (side_of role f) (heard_of role first f log) p → Matches role first part (GotPacket p ∷ log)
+ignores role first p part log m kept none rst order =
+    strays role first p part log m kept none rst (used_by_order role first part log (flow_got role p) p m.flows order)
 
 -- A packet that is dropped. A REQUEST ends what was heard on its flow. Over a fair log none is got on a flow on which an end is to ask.
 drop_flows : (role : Role) (first : ℕ) (p : Packet) (part : Ends) (log : Log) (asks : Bool) → let f = flow_got role p in

@@ -1,12 +1,13 @@
 //! What an end of many connections puts keeps its log fair by the peer, where packets come that a switch passed on from another guest.
 
-ghost use Rattle.std.specs.Prelude.{◌≡◌, ◌≤◌, ℕ, true, false, List, [], ◌∷◌, length, Some};
+ghost use Rattle.std.specs.Prelude.{◌≡◌, ◌<◌, ◌≤◌, ℕ, true, false, List, [], ◌∷◌, length, Some};
 ghost use Rattle.vs_conn.specs.{Follows.FitsMessage, declared.end.Owed.Owed, End.{CanSend, ConnectionEnd, owes_of}};
 ghost use Rattle.vs_flow.specs.{Flow.is_host, declared.flow.Flow.Flow};
 ghost use Rattle.vs_header.specs.declared.Kind.{Kind};
-ghost use Rattle.laws_history.specs.{History.{Asker, puts}, declared.packet.Packet.Packet};
-ghost use Rattle.laws_tables.specs.{ByPeer.IsSoundByPeer, Ends.{Ends, is_new}, Heard.own_port, Matches.{IsOwed, IsReady, Matches}, Steps.{HasEnd, owed_on, payload_on, reply_on, request_on}};
-ghost use Rattle.vs_page.specs.{Fair.{IsFairLog, IsFairLogByPeer}, Log.{Log, Role, history_of, side_of}};
+ghost use Rattle.laws_history.specs.{History.{Asker, puts}, Packets.is_rst, declared.packet.Packet.Packet};
+ghost use Rattle.laws_tables.specs.{ByPeer.IsSoundByPeer, Ends.{Ends, is_among, is_new}, Heard.own_port, Matches.{IsOwed, IsReady, Matches}, Steps.{HasEnd, HasNone, owed_on}};
+ghost use Rattle.laws_tables.specs.Steps.{payload_on, reply_on, request_on};
+ghost use Rattle.vs_page.specs.{Fair.{IsFairLog, IsFairLogByPeer}, Log.{Log, Role, flow_got, history_of, side_of}, Open.is_dropped};
 ghost use Rattle.vs_page.specs.declared.log.LogEntry.TheVariants.{GotEvent, GotPacket, Mark, PutEvent, PutPacket};
 ghost use Rattle.vs_replies.specs.declared.Reply.{Reply};
 
@@ -38,4 +39,13 @@ pub fn law_of_fairness_by_peer()
     // Where the log is fair at all, it is so.
     ensures fair { (role : Role) (first : ℕ) (part : Ends) (log : Log) → Matches role first part log → IsFairLog role log
         → IsSoundByPeer role first log }
+{}
+
+/// An RST that comes from another guest before any REQUEST on its flow, since that guest changed its CID, changes no connection: an end that asks
+/// for such flows still matches its log, where its port of the flow is below the next that it gives, and the flow isn't kept to be used again.
+pub fn law_of_strays()
+    ensures { (role : Role) (first : ℕ) (p : Packet) (part : Ends) (log : Log) → let f = flow_got role p in Matches role first part log
+        → is_dropped role part.cid p.header ≡ false → HasNone f part → is_rst p ≡ true
+        → (side_of role f ≡ Asker → own_port role f < part.next_port) → is_among f part.clean ≡ false
+        → Matches role first part (GotPacket p ∷ log) }
 {}
