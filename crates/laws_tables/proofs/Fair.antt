@@ -68,10 +68,10 @@ heard_all first f (GotPacket p ∷ log) host =
 heard_all first f (_ ∷ log) host = heard_all first f log host
 
 -- Some of the packets of a list say no more than all of them.
-less_none : (all : List Packet) → Later [] all
+pub less_none : (all : List Packet) → Later [] all
 less_none = grind (arith, common_steps)
 
-less_same : (all : List Packet) → Later all all
+pub less_same : (all : List Packet) → Later all all
 less_same = grind (arith, common_steps)
 
 forwarded_both : (some all : List Packet) (p : Packet) → told_forwarded some ≤ told_forwarded all
@@ -81,10 +81,10 @@ forwarded_both some all p less = grind (arith, common_steps)
 alloc_both : (some all : List Packet) (p : Packet) → told_alloc some ≤ told_alloc all → told_alloc (p ∷ some) ≤ told_alloc (p ∷ all)
 alloc_both = grind (arith, common_steps)
 
-less_both : (some all : List Packet) (p : Packet) → is_request p ≡ false → Later some all → Later (p ∷ some) (p ∷ all)
+pub less_both : (some all : List Packet) (p : Packet) → is_request p ≡ false → Later some all → Later (p ∷ some) (p ∷ all)
 less_both = grind (arith, forwarded_both, alloc_both, kind_stays, common_steps)
 
-less_more : (some all : List Packet) (p : Packet) → is_request p ≡ false → (is_rst p ≡ false → told_alloc all ≤ p.header.buf_alloc)
+pub less_more : (some all : List Packet) (p : Packet) → is_request p ≡ false → (is_rst p ≡ false → told_alloc all ≤ p.header.buf_alloc)
     → Later some all → Later some (p ∷ all)
 less_more = grind (arith, common_steps)
 
@@ -185,7 +185,7 @@ pay_may_on role first cid f e what part log m has old owes fair within =
     let o = end_follows role (side_of role f) h _ _ _ e (m.on f) has old in
     pay_may (side_of role f) (puts h) (gots h) e (route_of role cid f) what (sound_heard role first f log fair within) o.follows owes
 
-known_kind : (k : Kind) → is_some (kind_named (kind_number k)) ≡ true
+pub known_kind : (k : Kind) → is_some (kind_named (kind_number k)) ≡ true
 known_kind k = grind (arith, common_steps)
 
 pub reply_may : (role : Role) (cid : ℕ) (r : Reply) (log : Log) → IsOwed role log r

@@ -175,28 +175,30 @@ keeps_flow role first f part log used own clean m =
     as_kept : (g : Flow) → IsKept role first part log g → IsKept role first (record part { clean = kept CLEAN_PAIRS f part.clean }) log g
     as_kept g k = record { asker = k.asker; no_end = k.no_end; no_reply = k.no_reply; over = k.over }
 
+-- Where an asker put nothing on the present connection, nothing passed.
+has_asked : (h : History) (x : Entry) → IsFair Asker (x ∷ h) → has is_request (puts (x ∷ h)) ≡ true
+has_asked h (Put p) fair = by_put (is_request p) refl
+  where
+    by_put : (b : Bool) → is_request p ≡ b → has is_request (puts (Put p ∷ h)) ≡ true
+    by_put true is = rw is refl
+    by_put false is = rw is (fair.0.begun is)
+has_asked h (Got p) fair = by_got (is_request p) refl
+  where
+    by_got : (b : Bool) → is_request p ≡ b → has is_request (puts (Got p ∷ h)) ≡ true
+    by_got true is = let t = fair.0.timely in absurd (grind (arith, common_steps, is, t))
+    by_got false is = fair.0.begun is
+
+pub silent_fair : (h : History) → [] ≡ puts h → IsFair Asker h → h ≡ []
+silent_fair [] none fair = refl
+silent_fair (x ∷ h) none fair = let both : false ≡ true = ap (has is_request) none ∙ has_asked h x fair in absurd cc
+
 -- A flow that may be asked for is ready.
 silent_none : (role : Role) (first : ℕ) (f : Flow) (log : Log) → IsFairOn role f log → side_of role f ≡ Asker
     → heard_of role first f log ≡ []
     → history_of role f log ≡ []
-silent_none role first f log fair asker silent = by (history_of role f log) (ap puts (sym silent) ∙ heard_puts role first f log)
+silent_none role first f log fair asker silent =
+    silent_fair (history_of role f log) (ap puts (sym silent) ∙ heard_puts role first f log)
     (subst (λ s. IsFair s (history_of role f log)) asker (fair_now role f log fair))
-  where
-    has_asked : (h : History) (x : Entry) → IsFair Asker (x ∷ h) → has is_request (puts (x ∷ h)) ≡ true
-    has_asked h (Put p) fair = by_put (is_request p) refl
-      where
-        by_put : (b : Bool) → is_request p ≡ b → has is_request (puts (Put p ∷ h)) ≡ true
-        by_put true is = rw is refl
-        by_put false is = rw is (fair.0.begun is)
-    has_asked h (Got p) fair = by_got (is_request p) refl
-      where
-        by_got : (b : Bool) → is_request p ≡ b → has is_request (puts (Got p ∷ h)) ≡ true
-        by_got true is = let t = fair.0.timely in absurd (grind (arith, common_steps, is, t))
-        by_got false is = fair.0.begun is
-
-    by : (h : History) → [] ≡ puts h → IsFair Asker h → h ≡ []
-    by [] none fair = refl
-    by (x ∷ h) none fair = let both : false ≡ true = ap (has is_request) none ∙ has_asked h x fair in absurd cc
 
 pub next_clean : (role : Role) (first : ℕ) (f : Flow) (part : Ends) (log : Log) → Matches role first part log → IsFairLog role log
     → IsNextFlow role f part → (history_of role f log ≡ []) ⊎ (phase_of role first f log ≡ Clean)
@@ -308,10 +310,10 @@ sends role first cid f e payload part log m has can fits =
     (send_may_on role first cid f e payload part log m.flows has can fits (fair f) (left.within f)) (left.within f)) m
 
 -- What an end owes: a new one its REQUEST.
-not_request : (e : ConnectionEnd) (what : Owed) → is_new e ≡ false → owes_of e ≡ Some what → what ≢ owed.Request
+pub not_request : (e : ConnectionEnd) (what : Owed) → is_new e ≡ false → owes_of e ≡ Some what → what ≢ owed.Request
 not_request e what old owes is = steps.old_request e old (subst (λ x. owes_of e ≡ Some x) is owes)
 
-owed_no_request : (role : Role) (cid : ℕ) (f : Flow) (e : ConnectionEnd) (what : Owed) → what ≢ owed.Request
+pub owed_no_request : (role : Role) (cid : ℕ) (f : Flow) (e : ConnectionEnd) (what : Owed) → what ≢ owed.Request
     → is_request (owed_on role cid f e what) ≡ false
 owed_no_request = grind (arith, common_steps)
 
@@ -518,19 +520,26 @@ refuses role first p part log m kept none plain order =
     (λ g apart. (refl, steps.owed_other f g kind part.replies apart)) (old_none f _ none)
     (λ fair all. all_append role (GotPacket p ∷ log) part.replies more all (due_refused role p log plain fair, tt)) m
 
-pub ignores : (role : Role) (first : ℕ) (p : Packet) (part : Ends) (log : Log) → let f = flow_got role p in
+-- An RST that is ignored. On a flow whose port is given and that isn't kept it needn't come in order.
+pub strays : (role : Role) (first : ℕ) (p : Packet) (part : Ends) (log : Log) → let f = flow_got role p in
     Matches role first part log → is_dropped role part.cid p.header ≡ false → HasNone f part → is_rst p ≡ true
-    → IsInOrder (side_of role f) (heard_of role first f log) p → Matches role first part (GotPacket p ∷ log)
-ignores role first p part log m kept none rst order =
+    → IsUsed role f part → Matches role first part (GotPacket p ∷ log)
+strays role first p part log m kept none rst used =
     let f = flow_got role p in
     let h = heard_of role first f log in
     let kind = left_kind role first f log in
-    gets_on role first p part.entries part.replies part log kept (used_by_order role first part log f p m.flows order)
+    gets_on role first p part.entries part.replies part log kept used
     (subst (λ x. IsLeftOn role (side_of role f) x (kind_got p kind) (is_among f (replied part.replies)) (ends_of f part.entries))
     (sym (then_got p h (rst_asks_none p rst)))
     (ignores_on role (side_of role f) h (Got p) kind (kind_got p kind) _ _ (m.flows.on f) none
     (λ closed. ap (kind_got p) closed ∙ got_none p rst) refl))
     (λ g apart. (refl, refl)) (old_none f _ none) (λ fair all. all) m
+
+pub ignores : (role : Role) (first : ℕ) (p : Packet) (part : Ends) (log : Log) → let f = flow_got role p in
+    Matches role first part log → is_dropped role part.cid p.header ≡ false → HasNone f part → is_rst p ≡ true
+    → IsInOrder (side_of role f) (heard_of role first f log) p → Matches role first part (GotPacket p ∷ log)
+ignores role first p part log m kept none rst order =
+    strays role first p part log m kept none rst (used_by_order role first part log (flow_got role p) p m.flows order)
 
 -- A packet that is dropped. A REQUEST ends what was heard on its flow. Over a fair log none is got on a flow on which an end is to ask.
 drop_flows : (role : Role) (first : ℕ) (p : Packet) (part : Ends) (log : Log) (asks : Bool) → let f = flow_got role p in
