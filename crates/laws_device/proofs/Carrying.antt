@@ -7,7 +7,7 @@ use Rattle.vs_outside.specs.Host.{HostContents, after_close}
 use Rattle.vs_proxy_parts.specs.State.{Handshake}
 use Rattle.vs_ring_port.specs.{Chains.Held, EndLog.EndLog}
 use Rattle.vs_device_parts.specs.{Calls.{HostMoves, Situation, DeviceTree}, Playing.{IsRxChain, Runs}, State.{DeviceConnection, DeviceState}}
-use Rattle.laws_device.proofs.{Named.Tables.{some_after, some_from}, Ringing.{Telling, Tells, host_moves, tells_weaker}, Chains.{Among, alone, alone_so}, Seats.{AgreesBy, Carried}}
+use Rattle.laws_device.proofs.{Named.Tables.{some_after, some_from}, Ringing.{Telling, Tells, host_moves, tells_weaker}, Chains.{Among, alone, alone_so}, Seats.{AgreesBy, Carried}, Sure.Guard}
 use Rattle.laws_device.{proofs.Keeping.{Keeps, keeps_end}, specs.{Carried.Streamed.{IsStreamed, ports_of}, Honest.{IsFitState, IsWith}, Streams.{AreHeard, AreStreamedWith}}}
 use Rattle.laws_tables.proofs.Fair.{got_one}
 use Rattle.laws_device.specs.Carried.Streamed.{serving_of}
@@ -25,10 +25,11 @@ StreamedOver carry lines first port s host log = carry.ok → carry.plain first 
 
 abbrev pub IsToldBy : Carried → Fact → ℕ → ℕ → DeviceState → Telling
 IsToldBy carry fact first port s honest host l =
-    (s.failed ≡ None → Among carry.others s.chain l.held) × (honest ≡ true → AgreesBy carry first port s l × fact host l.entries)
+    (s.failed ≡ None → Among carry.others s.chain l.held)
+    × (Guard carry.fairly honest s.failed l.entries → AgreesBy carry first port s l × fact host l.entries)
 
 abbrev pub IsHeldBy : Carried → Fact → ℕ → ℕ → DeviceState → Situation → Type 0
-IsHeldBy carry fact first port s c = IfSome s.chain IsRxChain × Tells (IsToldBy carry fact first port s) c
+IsHeldBy carry fact first port s c = IfSome s.chain IsRxChain × Tells carry.fairly (IsToldBy carry fact first port s) c
 
 abbrev pub With : Carried → List Handshake → ℕ → ℕ → DeviceState → Situation → Type 0
 With carry lines first port s c = IsHeldBy carry (StreamedOver carry lines first port s) first port s c
@@ -71,7 +72,7 @@ pub faulted : (carry : Carried) (lines : List Handshake) (first port : ℕ) (s :
     → With carry lines first port (with_fault s) c
 faulted carry lines first port s c holds = (
   holds.0,
-  tells_weaker (IsToldBy carry (StreamedOver carry lines first port s) first port s)
+  tells_weaker carry.fairly (IsToldBy carry (StreamedOver carry lines first port s) first port s)
       (IsToldBy carry (StreamedOver carry lines first port (with_fault s)) first port (with_fault s)) (λ hon o l was. (
         was.0,
         λ honest. let p = was.1 honest in (
@@ -94,6 +95,8 @@ whole ok = record {
   step = λ step w may asked fits was. tt;
   plain = AreHeard;
   before = heard_before;
+  fairly = true;
+  sure = λ first log plain. refl;
   idle = λ first p w was m fair few dropped e has given.
       let own = got_one Device first p e w.part w.log m.flows has (fair (flow_got Device p)) in
       few.0 (ap (λ (cid : ℕ). is_dropped Device cid p.header) (sym m.flows.cid) ∙ dropped) (ap is_some own.kind_is);
@@ -103,26 +106,29 @@ module _ (ok : Type 0) (lines : List Handshake) (first port : ℕ) (s : DeviceSt
   pub held_with : IsWith first port s c.ring → (ok → AreStreamedWith first port lines s c) → With (whole ok) lines first port s c
   held_with holds streams = (
     holds.0,
-    λ l is. let was = holds.1 l is in (
-      λ still. subst (λ (held : List Held). Among (whole ok).others s.chain held) (sym (was.0 still)) (alone_so s.chain),
-      λ honest. let p = was.1 honest in (
-        record { fits = p.fits; none_overrun = p.none_overrun; matches = p.matches; fair = p.fair; seated = tt },
-        λ good few. streams good honest l is few,
-      ),
-    ),
+    record {
+      sure = tt;
+      told = λ l is. let was = holds.1 l is in (
+        λ still. subst (λ (held : List Held). Among (whole ok).others s.chain held) (sym (was.0 still)) (alone_so s.chain),
+        λ honest. let p = was.1 honest in (
+          record { fits = p.fits; none_overrun = p.none_overrun; matches = p.matches; fair = p.fair; seated = tt },
+          λ good few. streams good honest l is few,
+        ),
+      );
+    },
   )
 
   pub with_ring : With (whole ok) lines first port s c → IsWith first port s c.ring
   with_ring holds = (
     holds.0,
-    λ l is. let was = holds.1 l is in (
+    λ l is. let was = holds.1.told l is in (
       λ still. alone s.chain l.held (was.0 still),
       λ honest. let p = (was.1 honest).0 in record { fits = p.fits; none_overrun = p.none_overrun; matches = p.matches; fair = p.fair },
     ),
   )
 
   pub with_streams : With (whole ok) lines first port s c → ok → AreStreamedWith first port lines s c
-  with_streams holds good honest l is few = ((holds.1 l is).1 honest).1 good few
+  with_streams holds good honest l is few = ((holds.1.told l is).1 honest).1 good few
 
 -- Of the ring alone, and of the host too.
 abbrev pub ring_only : Carried
@@ -156,7 +162,7 @@ module _ (carry : Carried) (first port : ℕ) (s : DeviceState) (F G : Fact) whe
       → IsHeldBy carry F first port s c → IsHeldBy carry G first port s c
   fact_goes step c holds = (
     holds.0,
-    tells_weaker (IsToldBy carry F first port s) (IsToldBy carry G first port s) (λ hon o l was. (
+    tells_weaker carry.fairly (IsToldBy carry F first port s) (IsToldBy carry G first port s) (λ hon o l was. (
       was.0,
       λ honest. let p = was.1 honest in (p.0, step o l p.0 p.1),
     )) c holds.1,
@@ -167,7 +173,7 @@ module _ (carry : Carried) (first port : ℕ) (s : DeviceState) (F G : Fact) whe
       → IsHeldBy carry F first port s c → IsHeldBy carry G first port s d
   fact_called failed A f step c d made holds = (
     holds.0,
-    host_moves failed A f c d made (IsToldBy carry F first port s) (IsToldBy carry G first port s) (λ hon o n l exposes was. (
+    host_moves carry.fairly failed A f c d made (IsToldBy carry F first port s) (IsToldBy carry G first port s) (λ hon o n l exposes was. (
       was.0,
       λ honest. let p = was.1 honest in (p.0, step o n l exposes p.0 p.1),
     )) holds.1,

@@ -20,6 +20,8 @@ going v = record {
   step = λ step w may asked fits was. goes_on Device v w (after Device step w) step may refl was;
   plain = AreHeard;
   before = heard_before;
+  fairly = true;
+  sure = λ first log plain. refl;
   idle = λ first p w was m fair few dropped e has given. ring_only.idle first p w tt m fair few dropped e has given;
 }
 
@@ -27,21 +29,24 @@ pub going_from : (lines : List Handshake) (first port : ℕ) (s : DeviceState) (
     → IsWith first port s a.ring → With (going (seat port s l.entries)) lines first port s a
 going_from lines first port s a l told holds = (
   holds.0,
-  λ m is. let was = holds.1 m is in (
-    λ still. subst (λ (held : List Held). Among (λ others. others ≡ []) s.chain held) (sym (was.0 still)) (alone_so s.chain),
-    λ honest.
-        let p = was.1 honest in
-        let same : l ≡ m = same_told (sym told ∙ is) in (
-          record {
-            fits = p.fits;
-            none_overrun = p.none_overrun;
-            matches = p.matches;
-            fair = p.fair;
-            seated = subst (λ (k : EndLog). Goes Device (seat port s l.entries) (seat port s k.entries)) same (stays Device _ _ refl);
-          },
-          λ no. absurd no,
-        ),
-  ),
+  record {
+    sure = tt;
+    told = λ m is. let was = holds.1 m is in (
+      λ still. subst (λ (held : List Held). Among (λ others. others ≡ []) s.chain held) (sym (was.0 still)) (alone_so s.chain),
+      λ honest.
+          let p = was.1 honest in
+          let same : l ≡ m = same_told (sym told ∙ is) in (
+            record {
+              fits = p.fits;
+              none_overrun = p.none_overrun;
+              matches = p.matches;
+              fair = p.fair;
+              seated = subst (λ (k : EndLog). Goes Device (seat port s l.entries) (seat port s k.entries)) same (stays Device _ _ refl);
+            },
+            λ no. absurd no,
+          ),
+    );
+  },
 )
   where
     same_told : {x y : EndLog} → Some x ≡ Some y → x ≡ y
@@ -51,7 +56,7 @@ module _ (first port : ℕ) (k : Connection) (s : DeviceState) (a b : Situation)
   pub ends_past : {A : Type 0} (tree : DeviceTree A) (x : A) (lines : List Handshake) (next : ℕ) (t : DeviceState) → Runs tree a x b
       → ((l : EndLog) → a.ring.log ≡ Some l → With (going (seat port s l.entries)) lines first next t b) → StaysPast k port s a.ring next t b.ring
   ends_past tree x lines next t runs ends on l is m told past =
-      let p = (((ends l is).1 m told).1 ((log_goes_on tree a b x runs).0 ∙ on)).0 in
+      let p = (((ends l is).1.told m told).1 ((log_goes_on tree a b x runs).0 ∙ on)).0 in
       goes_past Device first k (seat port s l.entries) (seat next t m.entries) p.seated ((holds.1 l is).1 on).matches p.fair past
 
   pub call_past : {A : Type 0} (tree : DeviceTree A) (x : A) (state_of : A → DeviceState)

@@ -59,20 +59,20 @@ When A honest host l = honest ≡ true → A l
 
 over : (call : DeviceCall) (a : DeviceAnswer call) (L : Rings → Type 0) (f : Rings → Rings) (R : EndLog → Type 0) (g : EndLog → EndLog) (c d : Situation)
     → DeviceMoves call a L f R g c.ring d.ring → d.host ≡ c.host → (A B : EndLog → Type 0)
-    → ((l : EndLog) → c.ring.honest ≡ true → R l → A l → IsFairLog Device (g l).entries → B (g l)) → Tells (When A) c → Tells (When B) d
+    → ((l : EndLog) → c.ring.honest ≡ true → R l → A l → IsFairLog Device (g l).entries → B (g l)) → Tells true (When A) c → Tells true (When B) d
 over call a L f R g c d made same A B step at =
-    moves call a L f R g c d made same (λ h o l. (c.ring.honest ≡ h) × When A h o l) (When B)
-    (λ h o l r was fair on. step l (was.0 ∙ on) r (was.1 on) (fair on)) (λ l is. (refl, at l is))
+    moves true call a L f R g c d made same (λ h o l. (c.ring.honest ≡ h) × When A h o l) (When B)
+    (λ h o l r was fair on. step l (was.0 ∙ on) r (was.1 on) (fair on)) (record { sure = tt; told = λ l is. (refl, at.told l is) })
 
 module _ (first : ℕ) where
   abbrev At : Fields → EndLog → Type 0
   At n l = IsCounted first n.cid n.dropped n.failed l.entries
 
   abbrev pub P : Option Chain → Fields → Situation → Type 0
-  P page n c = Tells (When (At n)) c
+  P page n c = Tells true (When (At n)) c
 
   stays : (n : Fields) (c d : Situation) → d.ring ≡ c.ring → P None n c → P None n d
-  stays n c d same at = subst (λ (r : RingContents). ForSome r.log (λ l. r.honest ≡ true → At n l)) (sym same) at
+  stays n c d same at = record { sure = tt; told = subst (λ (r : RingContents). ForSome r.log (λ l. r.honest ≡ true → At n l)) (sym same) at.told }
 
   -- A page that isn't of tx is taken.
   taken_other : (queue : Queue) (n : Fields) (a : Next) (page : Option (List ℕ)) (l : EndLog) → (queue ≡ Tx → ⊥) → IsTakenWhole queue a page → At n l
@@ -210,11 +210,11 @@ module _ (first : ℕ) where
         let readable = t.readable in
         absurd (grind (arith, nat_tests, short, whole, len, readable))
 
-    header_read : (c : Situation) → Tells (When Heard) c → HeaderRead moving P chain h n c
+    header_read : (c : Situation) → Tells true (When Heard) c → HeaderRead moving P chain h n c
     header_read c tells = record {
-      short = λ short l is on. absurd (not_short short l (tells l is on));
-      drops = λ whole is l there on. judged true is l (tells l there on);
-      comes = λ whole is l there on. judged false is l (tells l there on);
+      short = λ short. record { sure = tt; told = λ l is on. absurd (not_short short l (tells.told l is on)) };
+      drops = λ whole is. record { sure = tt; told = λ l there on. judged true is l (tells.told l there on) };
+      comes = λ whole is. record { sure = tt; told = λ l there on. judged false is l (tells.told l there on) };
     }
 
   heard_as : (chain : Chain) (n : Fields) (bytes : List ℕ) (l : EndLog) → bytes ≡ take HEADER_LEN (drop 0 (bytes_in chain l.held)) → Took chain n l

@@ -2,7 +2,7 @@
 use Rattle.laws_device.proofs.{Tabling.{has_end, entry_fits}, Seats.{LeftBy, AgreesBy, Carried}, Carrying.{Fact, IsHeldBy, StreamedOver, With, closed_held, fact_called, put_goes}}
 use Rattle.laws_device.proofs.{Carrying.{streams_call, streams_go}, Changing.{cuts, shuts, wants, same}, Keeping.{Goes, Keeps, asking, Lets, keeps_bind, keeps_each, keeps_then}}
 use Rattle.laws_device.proofs.{Keeping.keeps_while, Putting.{Puts, owed_puts, reply_puts, rst_puts, send_puts}, Steps.{Filled, Open, changed, closing_keeps, cut_with, goes_on}}
-use Rattle.laws_device.proofs.{Steps.{hold_keeps, open_filled, called_with}, Writing.{writes_first, written_keeps}, Walk.Keeping.{keeps_if, keeps_some}, Carried.Changing.MayFollow}
+use Rattle.laws_device.proofs.{Sure.good_fair, Steps.{hold_keeps, open_filled, called_with}, Writing.{writes_first, written_keeps}, Walk.Keeping.{keeps_if, keeps_some}, Carried.Changing.MayFollow}
 use Rattle.laws_device.proofs.Carried.Changing.{asks_streams, called_host, closes_streams, ends_streams, leaves_streams, put_empty, reads_streams, shuts_streams}
 use Rattle.laws_device.{proofs.Carried.{Tabled.value_contained, Gives.pays_gives}, specs.{Carried.Streamed.{ports_of, IsStreamed}, Honest.IsFitState}}
 use Rattle.laws_tables.{specs.{Ends.{is_among, is_new}, Steps.payload_on}, proofs.{Keeps.owed_old, Slots.found_by}}
@@ -91,7 +91,7 @@ module _ (carry : Carried) (lines : List Handshake) (first port : ℕ) where
       keeps_bind Over (put_on chain h [] q) (λ x. bind (f x.state) (λ s. Done (record x { state = s }))) d
       (written_keeps carry first port r.state (Streamed r.state) (λ x e. Keeps Over (bind (f x.state) (λ s. Done (record x { state = s }))) e)
       (Done p) t h [] puts F carries chain holds.0.0
-      (omega (arith, holds.0.1)) none d (writes_first carry first port (record r.state { chain = Some chain }) (Streamed r.state) chain d refl ready.1 holds.1)
+      (omega (arith, holds.0.1)) none (still ∙ sym ready.1) d (writes_first carry first port (record r.state { chain = Some chain }) (Streamed r.state) chain d refl ready.1 holds.1)
       (λ e told. keeps_bind Over (f (record r.state { chain = None })) finish e
       (goes (λ s x. Keeps Over (finish s) x) e (subst (λ (o : Option Chain). IfSome o IsRxChain) (sym none) tt, told)
       (λ x held. (held, λ going. still))))))
@@ -258,7 +258,7 @@ module _ (carry : Carried) (lines : List Handshake) (first port : ℕ) where
           (λ fits. send_puts carry port r.state fits e there payload
           (can_send e.value.end (length payload) may (omega (arith, short))) (omega (arith, short)) old)
           (Streamed t) (λ o l p x. x)
-          chain holds.0.0 (omega (arith, short, holds.0.1)) refl c
+          chain holds.0.0 (omega (arith, short, holds.0.1)) refl refl c
           (writes_first carry first port (record r.state { chain = Some chain }) (Read payload) chain c refl going holds.1)
           (λ d told. ((tt, told), λ still. going)))
 
@@ -279,10 +279,11 @@ module _ (carry : Carried) (lines : List Handshake) (first port : ℕ) where
           (IsReadOf e.value.stream room (read.Got n, payload)) (after_read e.value.stream (read.Got n)) (λ h is few x.
           subst (λ (bytes : List ℕ). IsStreamed (after_read e.value.stream (read.Got n) h)
           (PutPacket (payload_on Device r.state.cid e.flow e.value.end bytes) ∷ l.entries) (ports_of carry.stay port r.state) (with_value r.state.table e.slot (sent bytes)) lines)
-          (sym is.1) (reads_streams h l.entries (ports_of carry.stay port r.state) r.state.table lines x p.fits.sound p.fair e there old n r.state.cid
+          (sym is.1) (let fair = good_fair carry.fairly l.entries (carry.sure first _ (carry.before first _ l.entries few)) p.fair in
+          reads_streams h l.entries (ports_of carry.stay port r.state) r.state.table lines x p.fits.sound fair e there old n r.state.cid
           (subst (λ (bytes : List ℕ). IsFairLog Device (PutPacket (payload_on Device r.state.cid e.flow e.value.end bytes) ∷ l.entries)) is.1
           ((send_puts carry port with_it p.fits e there payload (can_send e.value.end (length payload) may (omega (arith, made.1)))
-          (omega (arith, made.1)) old).fair first l.entries p.matches p.fair)))) o k exposes) c d made.0 holds)
+          (omega (arith, made.1)) old).fair first l.entries p.matches fair)))) o k exposes) c d made.0 holds)
       answered_keeps read.Again payload c d made holds = (
         called_with carry lines first port with_it with_it refl refl (λ fits. same carry port with_it fits) false
             (IsReadOf e.value.stream room (read.Again, payload)) called

@@ -1,3 +1,4 @@
+pub mod Sure
 pub mod Keeping
 pub mod Seats
 pub mod Shown
@@ -26,3 +27,4 @@ pub mod Dropping
 pub mod Walk
 pub mod Named
 pub mod Carried
+pub mod Ordering

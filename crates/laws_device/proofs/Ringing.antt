@@ -5,7 +5,7 @@ use Rattle.std.{specs.Option.ForSome}
 use Rattle.vs_contents.specs.Contents.{Exposes}
 use Rattle.vs_outside.specs.Host.{HostContents}
 use Rattle.vs_device_parts.specs.Calls.{HostMoves, Situation}
-use Rattle.laws_device.specs.Honest.{is_held}
+use Rattle.laws_device.{specs.Honest.is_held, proofs.Sure.Sure}
 use Rattle.vs_page.specs.{Fair.IsFairLog, Log.Device, Overwriting.overwritten}
 use Rattle.vs_ring_port.specs.{Chains.{Held, bytes_in, chains_of, same_chain, with_bytes, without_held}, Contents.{RingContents, DeviceCall, DeviceAnswer}}
 use Rattle.vs_ring_port.specs.{DeviceCalls.DeviceMoves, EndLog.{EndLog, entries_returned, log_returned, log_written}, Lists.Rings, declared.device_ring.Chain.Chain}
@@ -15,24 +15,38 @@ use Rattle.vs_ring_port.specs.declared.queue.Queue.{Queue}
 abbrev pub Telling : Type 1
 Telling = Bool → Option HostContents → EndLog → Type 0
 
-abbrev pub Tells : Telling → Situation → Type 0
-Tells P c = ForSome c.ring.log (P c.ring.honest c.host)
+pub record Tells (fairly : Bool) (P : Telling) (c : Situation) : Type 0 where
+  pub sure : Sure fairly c.ring.honest
+  pub told : ForSome c.ring.log (P c.ring.honest c.host)
 
-pub tells_weaker : (P Q : Telling) → ((h : Bool) (o : Option HostContents) (l : EndLog) → P h o l → Q h o l) → (c : Situation) → Tells P c → Tells Q c
-tells_weaker P Q then c tells = λ l is. then c.ring.honest c.host l (tells l is)
+pub tells_weaker : (fairly : Bool) (P Q : Telling) → ((h : Bool) (o : Option HostContents) (l : EndLog) → P h o l → Q h o l) → (c : Situation)
+    → Tells fairly P c → Tells fairly Q c
+tells_weaker fairly P Q then c tells = record { sure = tells.sure; told = λ l is. then c.ring.honest c.host l (tells.told l is) }
 
 -- A call changes the log by g: what follows of each log, which is fair after it where the ring is honest, it tells.
-pub moves : (call : DeviceCall) (a : DeviceAnswer call) (L : Rings → Type 0) (f : Rings → Rings) (R : EndLog → Type 0)
+log_moves : (call : DeviceCall) (a : DeviceAnswer call) (L : Rings → Type 0) (f : Rings → Rings) (R : EndLog → Type 0)
     (g : EndLog → EndLog) (c d : Situation)
     → DeviceMoves call a L f R g c.ring d.ring → d.host ≡ c.host → (P Q : Telling)
-    → ((h : Bool) (o : Option HostContents) (l : EndLog) → R l → P h o l → (h ≡ true → IsFairLog Device (g l).entries) → Q h o (g l)) → Tells P c → Tells Q d
-moves call a L f R g c d made stays P Q then tells = grind (arith, common_steps)
+    → ((h : Bool) (o : Option HostContents) (l : EndLog) → R l → P h o l → (h ≡ true → IsFairLog Device (g l).entries) → Q h o (g l))
+    → ForSome c.ring.log (P c.ring.honest c.host) → ForSome d.ring.log (Q d.ring.honest d.host)
+log_moves call a L f R g c d made stays P Q then tells = grind (arith, common_steps)
+
+pub moves : (fairly : Bool) (call : DeviceCall) (a : DeviceAnswer call) (L : Rings → Type 0) (f : Rings → Rings) (R : EndLog → Type 0)
+    (g : EndLog → EndLog) (c d : Situation)
+    → DeviceMoves call a L f R g c.ring d.ring → d.host ≡ c.host → (P Q : Telling)
+    → ((h : Bool) (o : Option HostContents) (l : EndLog) → R l → P h o l → (h ≡ true → IsFairLog Device (g l).entries) → Q h o (g l))
+    → Tells fairly P c → Tells fairly Q d
+moves fairly call a L f R g c d made stays P Q then tells =
+    record { sure = subst (Sure fairly) (sym made.honest) tells.sure; told = log_moves call a L f R g c d made stays P Q then tells.told }
 
 -- A call on the host leaves the log.
-pub host_moves : (failed : Bool) (A : HostContents → Type 0) (f : HostContents → HostContents) (c d : Situation) → HostMoves failed A f c d → (P Q : Telling)
-    → ((h : Bool) (o n : Option HostContents) (l : EndLog) → Exposes o n A f → P h o l → Q h n l) → Tells P c → Tells Q d
-host_moves failed A f c d made P Q then tells =
-    subst (λ (r : RingContents). ForSome r.log (Q r.honest d.host)) (sym made.ring) (λ l is. then c.ring.honest c.host d.host l made.host (tells l is))
+pub host_moves : (fairly failed : Bool) (A : HostContents → Type 0) (f : HostContents → HostContents) (c d : Situation) → HostMoves failed A f c d → (P Q : Telling)
+    → ((h : Bool) (o n : Option HostContents) (l : EndLog) → Exposes o n A f → P h o l → Q h n l) → Tells fairly P c → Tells fairly Q d
+host_moves fairly failed A f c d made P Q then tells = record {
+  sure = subst (λ (r : RingContents). Sure fairly r.honest) (sym made.ring) tells.sure;
+  told = subst (λ (r : RingContents). ForSome r.log (Q r.honest d.host)) (sym made.ring)
+      (λ l is. then c.ring.honest c.host d.host l made.host (tells.told l is));
+}
 
 -- A chain is itself.
 pub same_self : (c : Chain) → same_chain c c ≡ true

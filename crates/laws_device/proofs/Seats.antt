@@ -5,7 +5,7 @@ use Rattle.vs_flow.specs.{declared.flow.Flow.Flow, Table.Table}
 use Rattle.vs_limits.specs.declared.TheConstants.{HOST_CID}
 use Rattle.vs_page.specs.{Log.{flow_got, Device, Log, packets_put}, Open.is_dropped, declared.log.LogEntry.{LogEntry, TheVariants.GotPacket}, Fair.IsFairLog, Held.FitsWire}
 use Rattle.laws_tables.{specs.{Steps.HasEnd, Both.{Asks, Opens, Seat, Step, after}, Ends.Ends, Matches.Matches}, proofs.Going.MayDo}
-use Rattle.laws_device.specs.{Carried.Streamed.gives, Honest.{IsFit, ends_of_state, ends_with}}
+use Rattle.laws_device.{specs.{Carried.Streamed.gives, Honest.{IsFit, ends_of_state, ends_with}}, proofs.Sure.{Given, Good}}
 use Rattle.laws_history.specs.declared.packet.Packet.{Packet}
 use Rattle.vs_ring_port.specs.{Chains.Held, EndLog.EndLog}
 use Rattle.vs_replies.specs.declared.Reply.{Reply}
@@ -33,7 +33,7 @@ PutsFit log = AllFit (packets_put log)
 
 -- What is carried: whether the host's streams are told of, and whether its listeners stay as they are; which other chains may be held; which
 -- flows the device may ask for, those with the host among them; and a fact of the seat that each step keeps. Where the log is plain, which each
--- one before it then was, no payload was dropped that a stream is to be given.
+-- one before it then was, no payload was dropped that a stream is to be given. It is so of honest rings alone where it is of any.
 pub record Carried : Type 1 where
   pub ok : Type 0
   pub stay : Bool
@@ -44,6 +44,8 @@ pub record Carried : Type 1 where
   pub step : (step : Step) (w : Seat) → MayDo Device step w → IsAsked asks step → (PutsFit w.log → PutsFit (after Device step w).log) → holds w → holds (after Device step w)
   pub plain : ℕ → Log → Type 0
   pub before : (first : ℕ) (entry : LogEntry) (log : Log) → plain first (entry ∷ log) → plain first log
+  pub fairly : Bool
+  pub sure : (first : ℕ) (log : Log) → plain first log → fairly ≡ true
   pub idle : (first : ℕ) (p : Packet) (w : Seat) → holds w → Matches Device first w.part w.log → IsFairLog Device (GotPacket p ∷ w.log)
       → plain first (GotPacket p ∷ w.log) → is_dropped Device w.part.cid p.header ≡ true → (e : ConnectionEnd) → HasEnd (flow_got Device p) e w.part
       → gives e ≡ true → p.payload ≡ []
@@ -52,9 +54,9 @@ pub record Carried : Type 1 where
 pub record LeftBy (carry : Carried) (first port cid overrun : ℕ) (table : Table DeviceConnection) (replies : List Reply)
     (clean : List Flow) (entries : Log) : Type 0 where
   pub fits : IsFit cid table replies clean
-  pub none_overrun : overrun ≡ 0
+  pub none_overrun : Given carry.fairly (overrun ≡ 0)
   pub matches : Matches Device first (ends_with port cid table replies clean) entries
-  pub fair : IsFairLog Device entries
+  pub fair : Good carry.fairly entries
   pub seated : carry.holds (record { part = ends_with port cid table replies clean; log = entries })
 
 abbrev pub AgreesBy : Carried → ℕ → ℕ → DeviceState → EndLog → Type 0

@@ -8,7 +8,7 @@ use Rattle.vs_limits.specs.declared.TheConstants.{BUF_ALLOC, BUF_ALLOC_MAX}
 use Rattle.vs_page.specs.{declared.log.LogEntry.TheVariants.{GotPacket, PutPacket}, Log.{Device, Log, flow_put, history_of, packets_put, side_of, whole_of}, Fair.IsFairLog}
 use Rattle.vs_page.proofs.Entries.{one_got, one_put, present_is}
 use Rattle.vs_ring_port.specs.EndLog.{EndLog}
-use Rattle.laws_tables.{specs.Ends.{FlowEnd, flows_of, is_among, is_new}, proofs.Tables.{all_open, end_new}}
+use Rattle.laws_tables.{specs.{Ends.{FlowEnd, flows_of, is_among, is_new}, Matches.Matches}, proofs.Tables.{all_open, end_new}}
 use Rattle.vs_device_parts.specs.{State.{DeviceEntry, DeviceState}, Turns.table_shown}
 use Rattle.laws_device.{specs.Honest.{Advertises, AgreesWith, IsClients, IsLeftOpen, ends_of_state, flows_shown}, proofs.Tabling.{entry_fits, has_end}}
 
@@ -18,9 +18,13 @@ pub same_flows : (es : List DeviceEntry)
 same_flows [] = refl
 same_flows (e ∷ es) = ap (λ (fs : List Flow). e.flow ∷ fs) (same_flows es)
 
+pub as_left_open : (first port : ℕ) (s : DeviceState) (l : EndLog) → Matches Device first (ends_of_state port s) l.entries
+    → IsLeftOpen first s (table_shown s) l
+as_left_open first port s l matches f =
+    ap (is_among f) (same_flows s.table.entries) ∙ all_open Device first (ends_of_state port s) l.entries f matches.flows
+
 pub left_open : (first port : ℕ) (s : DeviceState) (l : EndLog) → AgreesWith first port s l → IsLeftOpen first s (table_shown s) l
-left_open first port s l agrees f =
-    ap (is_among f) (same_flows s.table.entries) ∙ all_open Device first (ends_of_state port s) l.entries f agrees.matches.flows
+left_open first port s l agrees = as_left_open first port s l agrees.matches
 
 pub pending_within : (first port : ℕ) (s : DeviceState) (l : EndLog) (e : DeviceEntry) → AgreesWith first port s l
     → Contains s.table.entries e

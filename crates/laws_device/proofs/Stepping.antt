@@ -14,7 +14,7 @@ use Rattle.vs_device_parts.specs.{Receiving.{Filling, may_read, put_owed, put_re
 use Rattle.vs_device_parts.specs.{Streams.write_pending, Transmitting.failing}
 use Rattle.laws_device.{specs.Honest.is_held, proofs.{Chains.{Among, among_more, among_without, held_there}, Filling.{Over, Ready, put_owed_keeps, put_reply_keeps, step_keeps}}}
 use Rattle.laws_device.proofs.{Filling.under_there, Keeping.{Goes, Keeps, asking, Lets, keeps_then}, Carrying.{IsToldBy, StreamedOver, With}, Hearing.{After, Heard}}
-use Rattle.laws_device.proofs.{Steps.{none_came, hold_keeps}, Ringing.{moves, tells_weaker}, Seats.{Carried, LeftBy}, Transmitting.{read_keeps, tx_keeps}, Turning.event_put}
+use Rattle.laws_device.proofs.{Steps.{none_came, hold_keeps}, Sure.Guard, Ringing.{moves, tells_weaker}, Seats.{Carried, LeftBy}, Transmitting.{read_keeps, tx_keeps}, Turning.event_put}
 use Rattle.laws_device.proofs.{Turning.{shut_keeps, write_keeps_all}, Walk.Keeping.{keeps_if, keeps_some}}
 use Rattle.vs_proxy_parts.specs.State.{Handshake}
 use Rattle.vs_ring_port.specs.declared.device_ring.Next.TheVariants as next
@@ -38,7 +38,7 @@ module _ (carry : Carried) (all : (held : List Held) → carry.others held) (lin
     event_taken : (answer : Next) (d : Situation) → Lets (Ring (Take Event)) answer c d → Now s d
     event_taken (next.Chain chain) d made = (
       holds.0,
-      moves _ _ _ _ _ (log_taken Event (next.Chain chain) made.0.0) c d made.0.1 made.1 (Told s) (Told s)
+      moves carry.fairly _ _ _ _ _ (log_taken Event (next.Chain chain) made.0.0) c d made.0.1 made.1 (Told s) (Told s)
           (λ hon o l asked was fair. by made.0.0 hon o l asked.0 was) holds.1,
     )
       where
@@ -50,7 +50,7 @@ module _ (carry : Carried) (all : (held : List Held) → carry.others held) (lin
     event_taken next.None d made = none_came carry lines first port Event s c d made holds
     event_taken (next.Failed f) d made = (
       holds.0,
-      moves _ _ _ _ _ (log_taken Event (next.Failed f) made.0.0) c d made.0.1 made.1 (Told s) (Told s) (λ hon o l asked was fair. was) holds.1,
+      moves carry.fairly _ _ _ _ _ (log_taken Event (next.Failed f) made.0.0) c d made.0.1 made.1 (Told s) (Told s) (λ hon o l asked was fair. was) holds.1,
     )
 
     heard_now : (chain : Chain) → chain.queue ≡ Tx → (h : Header) (wire : FitsWire h) (x : DeviceState × Verdict) (d : Situation)
@@ -58,7 +58,7 @@ module _ (carry : Carried) (all : (held : List Held) → carry.others held) (lin
     heard_now chain queue h wire x d (failed, chain_is, tells) =
         let rx : IfSome x.0.chain IsRxChain = subst (λ (o : Option Chain). IfSome o IsRxChain) (sym chain_is) holds.0 in (
           rx,
-          tells_weaker (After carry lines first port s chain h wire x.0) (Told x.0) (λ hon o l was. (
+          tells_weaker carry.fairly (After carry lines first port s chain h wire x.0) (Told x.0) (λ hon o l was. (
             λ still. subst (λ (held : List Held). Among carry.others x.0.chain held) (sym was.1.1)
                 (among_more carry.others all chain (other chain Tx queue refl) x.0.chain was.0 was.1.0 rx was.1.2),
             was.2,
@@ -108,10 +108,12 @@ module _ (carry : Carried) (all : (held : List Held) → carry.others held) (lin
       (λ less. absurd (omega (arith, less)), λ l is. held_there chain l.held (there l is)),
       λ a d made. (
         holds.0,
-        moves _ _ _ _ _ (log_returned chain 0) c d made.0.1 made.1 (Told s) (Told s) (λ hon o l asked was fair. (
+        moves carry.fairly _ _ _ _ _ (log_returned chain 0) c d made.0.1 made.1 (Told s) (Told s) (λ hon o l asked was fair. (
           λ still. among_without carry.others all chain (other chain Tx queue refl) s.chain l.held holds.0 (was.0 still),
-          λ honest. subst (λ (log : Log). LeftBy carry first port s.cid s.overrun s.table s.replies s.clean log × StreamedOver carry lines first port s o log)
-              (sym (ap (λ (q : Queue). entries_returned q (take 0 (bytes_in chain l.held)) l.entries) queue)) (was.1 honest),
+          λ honest.
+              let same : (log_returned chain 0 l).entries ≡ l.entries = ap (λ (q : Queue). entries_returned q (take 0 (bytes_in chain l.held)) l.entries) queue in
+              subst (λ (log : Log). LeftBy carry first port s.cid s.overrun s.table s.replies s.clean log × StreamedOver carry lines first port s o log)
+              (sym same) (was.1 (subst (λ (log : Log). Guard carry.fairly hon s.failed log) same honest)),
         )) holds.1,
       ),
     )
@@ -120,10 +122,13 @@ module _ (carry : Carried) (all : (held : List Held) → carry.others held) (lin
     puts_event_keeps chain queue room there =
         keeps_if asking Now s.event_owed _ _ c (λ owed.
         event_put carry lines first port s Now (Done (record s { event_owed = false })) chain queue room (λ bytes. Unit {0}) c
-        (λ l is. let was = holds.1 l is in (
-          (there l is, tt, λ still. among_without carry.others all chain (other chain Event queue refl) s.chain l.held holds.0 (was.0 still)),
-          was.1,
-        )) (λ d told. (holds.0, told))) (λ no. holds)
+        (record {
+          sure = holds.1.sure;
+          told = λ l is. let was = holds.1.told l is in (
+            (there l is, tt, λ still. among_without carry.others all chain (other chain Event queue refl) s.chain l.held holds.0 (was.0 still)),
+            was.1,
+          );
+        }) (λ d told. (holds.0, told))) (λ no. holds)
 
     -- It writes to a connection's stream, and shuts the side that it writes to.
     pub writes_keeps : (slot : ℕ) → Keeps Now (writes slot s) c

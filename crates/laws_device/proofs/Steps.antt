@@ -1,8 +1,6 @@
 -- Steps of the device between its calls on the ring, and the chain that it takes for a packet.
-use Rattle.std.proofs.Common.{arith}
-use Rattle.std.proofs.lemmas.Grind.{common_steps}
 use Rattle.laws_tables.specs.Ends.{is_new}
-use Rattle.std.proofs.Common.{◌≡◌, ℕ, Bool, true, false, not, List, [], Contains, Option, Some, None, refl, sym, subst, IfSome, inl, inr}
+use Rattle.std.proofs.Common.{◌≡◌, ℕ, Bool, true, false, not, List, [], Contains, Option, Some, None, refl, sym, subst, ◌∙◌, IfSome, inl, inr}
 use Rattle.vs_contents.specs.CallTree.{bind}
 use Rattle.vs_ring_port.specs.{EndLog.{EndLog, log_taken}, Contents.Take, DeviceCalls.IsTakenAs, declared.{device_ring.{Chain.Chain, Next.Next}, queue.Queue.TheVariants.Rx}}
 use Rattle.vs_ring_port.specs.declared.{queue.Queue.Queue, failure.Failure.Failure}
@@ -10,7 +8,7 @@ use Rattle.vs_device_parts.specs.{Calls.{DeviceTree, HostMoves, Ring, Situation}
 use Rattle.vs_device_parts.specs.{State.{DeviceConnection, DeviceEntry, DeviceState}, Streams.closing, Transmitting.failing}
 use Rattle.laws_device.{specs.{Honest.IsFitState, Carried.Streamed.{IsStreamed, ports_of}}, proofs.Carrying.{Closes, Fact, IsHeldBy, IsToldBy, StreamedOver, With, closed_with}}
 use Rattle.laws_device.proofs.{Carrying.{streams_call, streams_go}, Chains.{Among, is_unwritten, taken_holds}, Seats.Carried, Changing.Changes, Keeping.{Goes, Keeps, asking, Lets}}
-use Rattle.laws_device.proofs.{Ringing.{moves, host_moves, tells_weaker}, Walk.Keeping.keeps_if, Carried.{Changing.cuts_streams, HostCalls.cut_host}}
+use Rattle.laws_device.proofs.{Ringing.{moves, host_moves, tells_weaker}, Sure.{Given, guard_failed, guard_honest, guard_same, guard_sure}, Walk.Keeping.keeps_if, Carried.{Changing.cuts_streams, HostCalls.cut_host}}
 use Rattle.vs_proxy_parts.specs.State.{Handshake}
 use Rattle.vs_outside.specs.Host.{HostContents}
 use Rattle.vs_page.specs.Log.{Log}
@@ -29,7 +27,22 @@ module _ (carry : Carried) (lines : List Handshake) (first port : ℕ) where
 
   pub told_changed : (s t : DeviceState) (F G : Fact) (hon : Bool) (o n : Option HostContents) (l : EndLog) → t.chain ≡ s.chain → t.failed ≡ s.failed
       → (IsFitState s → Changes carry port s t) → (IsFitState s → F o l.entries → G n l.entries) → IsToldBy carry F first port s hon o l → IsToldBy carry G first port t hon n l
-  told_changed s t F G hon o n l chain failed step carries was = grind (arith, common_steps)
+  told_changed s t F G hon o n l chain failed step carries was = (
+    λ still. subst (λ (x : Option Chain). Among carry.others x l.held) (sym chain) (was.0 (sym failed ∙ still)),
+    λ honest.
+        let both = was.1 (guard_same carry.fairly hon t.failed s.failed l.entries failed honest) in
+        let p = both.0 in
+        let c = step p.fits in (
+          record {
+            fits = c.fits;
+            none_overrun = subst (λ (k : ℕ). Given carry.fairly (k ≡ 0)) (sym c.overrun_is) p.none_overrun;
+            matches = c.matches first l.entries p.matches;
+            fair = p.fair;
+            seated = c.goes l.entries p.seated;
+          },
+          carries p.fits both.1,
+        ),
+  )
 
   -- A step that puts and gets nothing, without a call on the host and with one.
   pub changed : (s t : DeviceState) → t.chain ≡ s.chain → t.failed ≡ s.failed → (IsFitState s → Changes carry port s t)
@@ -37,7 +50,7 @@ module _ (carry : Carried) (lines : List Handshake) (first port : ℕ) where
       → With carry lines first port s c → With carry lines first port t c
   changed s t chain failed step carries c holds = (
     subst (λ (o : Option Chain). IfSome o IsRxChain) (sym chain) holds.0,
-    tells_weaker (IsToldBy carry (Streamed s) first port s) (IsToldBy carry (Streamed t) first port t) (λ hon o l was.
+    tells_weaker carry.fairly (IsToldBy carry (Streamed s) first port s) (IsToldBy carry (Streamed t) first port t) (λ hon o l was.
         told_changed s t (Streamed s) (Streamed t) hon o o l chain failed step (λ fits x.
         streams_go carry first lines lines port port s t l.entries l.entries (λ few. few) (λ h few y. carries fits h l.entries y) o x) was) c holds.1,
   )
@@ -48,7 +61,7 @@ module _ (carry : Carried) (lines : List Handshake) (first port : ℕ) where
       → HostMoves failed A f c d → With carry lines first port s c → With carry lines first port t d
   called_with s t chain failed step faults A f carries c d made holds = (
     subst (λ (o : Option Chain). IfSome o IsRxChain) (sym chain) holds.0,
-    host_moves faults A f c d made (IsToldBy carry (Streamed s) first port s) (IsToldBy carry (Streamed t) first port t) (λ hon o n l exposes was.
+    host_moves carry.fairly faults A f c d made (IsToldBy carry (Streamed s) first port s) (IsToldBy carry (Streamed t) first port t) (λ hon o n l exposes was.
         told_changed s t (Streamed s) (Streamed t) hon o n l chain failed step (λ fits x.
         streams_call carry first lines lines port port s t l.entries l.entries (λ few. few) A f (λ h answers few y. carries fits h l.entries answers y) o n exposes x) was)
         holds.1,
@@ -59,13 +72,22 @@ module _ (carry : Carried) (lines : List Handshake) (first port : ℕ) where
       → With carry lines first port s c → With carry lines first port s d
   none_came queue s c d made holds = (
     holds.0,
-    moves _ _ _ _ _ (log_taken queue next.None made.0.0) c d made.0.1 made.1 (IsToldBy carry (Streamed s) first port s)
+    moves carry.fairly _ _ _ _ _ (log_taken queue next.None made.0.0) c d made.0.1 made.1 (IsToldBy carry (Streamed s) first port s)
         (IsToldBy carry (Streamed s) first port s) (λ hon o l asked was fair. was) holds.1,
   )
 
   pub it_failed : (queue : Queue) (f : Failure) (s : DeviceState) (c d : Situation) → s.failed ≡ None
       → Lets (Ring (Take queue)) (next.Failed f) c d → With carry lines first port s c → With carry lines first port (failing f s) d
-  it_failed queue f s c d going made holds = grind (arith, common_steps)
+  it_failed queue f s c d going made holds = (
+    holds.0,
+    moves carry.fairly _ _ _ _ _ (log_taken queue (next.Failed f) made.0.0) c d made.0.1 made.1 (IsToldBy carry (Streamed s) first port s)
+        (IsToldBy carry (Streamed s) first port (failing f s)) (λ hon o l asked was fair. (
+          λ still. absurd cc,
+          λ honest.
+              let sure = guard_failed carry.fairly hon f l.entries honest in
+              was.1 (guard_sure carry.fairly hon s.failed l.entries sure (guard_honest carry.fairly hon (Some f) l.entries sure honest)),
+        )) holds.1,
+  )
 
   -- The seat alone changes.
   pub seat_changed : (s t : DeviceState) (F : Fact) → t.chain ≡ s.chain → t.failed ≡ s.failed → (IsFitState s → Changes carry port s t)
@@ -73,7 +95,7 @@ module _ (carry : Carried) (lines : List Handshake) (first port : ℕ) where
       → IsHeldBy carry F first port s c → IsHeldBy carry F first port t c
   seat_changed s t F chain failed step c holds = (
     subst (λ (o : Option Chain). IfSome o IsRxChain) (sym chain) holds.0,
-    tells_weaker (IsToldBy carry F first port s) (IsToldBy carry F first port t) (λ hon o l was.
+    tells_weaker carry.fairly (IsToldBy carry F first port s) (IsToldBy carry F first port t) (λ hon o l was.
         told_changed s t F F hon o o l chain failed step (λ fits x. x) was) c holds.1,
   )
 
@@ -114,7 +136,7 @@ module _ (carry : Carried) (lines : List Handshake) (first port : ℕ) where
       let P : DeviceState → Type 0 = λ x. With carry lines first port (record x { chain = Some chain }) d in
       subst P (sym is) (
         (made.3.queue_is, made.3.long),
-        moves _ _ _ _ _ (log_taken Rx (next.Chain chain) made.0.0) c d made.0.1 made.1 (IsToldBy carry (Streamed s) first port s)
+        moves carry.fairly _ _ _ _ _ (log_taken Rx (next.Chain chain) made.0.0) c d made.0.1 made.1 (IsToldBy carry (Streamed s) first port s)
             (IsToldBy carry (Streamed s) first port (record s { chain = Some chain }))
             (λ h o l asked was fair. taken_by made.0.0 h o l asked.0 was) holds.1,
       )

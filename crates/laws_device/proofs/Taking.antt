@@ -1,17 +1,17 @@
 -- A packet that is got: the device's connections are those that the log with it leaves.
 use Rattle.std.proofs.{Common.{◌≡◌, ℕ, ◌&&◌, Bool, true, false, cond, List, [], ◌∷◌, Contains, None, refl, sym, ap, subst, ◌∙◌, arith}, lemmas.List.Elements.All-push}
 use Rattle.std.proofs.lemmas.{Bool.Decides.nat_tests, Grind.common_steps}
-use Rattle.vs_conn.{specs.{End.{ConnectionEnd, answering, end_after, is_reset, is_of, verdict_of}, Follows.IsTaken}, proofs.Frames.got_kind}
+use Rattle.vs_conn.{specs.{End.{ConnectionEnd, answering, end_after, is_reset, is_of}, Follows.IsTaken}, proofs.Frames.got_kind}
 use Rattle.laws_history.specs.{Packets.{is_request, is_rst}, declared.packet.Packet.Packet}
 use Rattle.vs_limits.specs.declared.TheConstants.{BUF_ALLOC, HOST_CID}
 use Rattle.vs_flow.{specs.{CleanPairs.kept_if, Table.{entry_of, has_place, refusal, with_value, without}, declared.flow.Flow.Flow}, proofs.Tables.accepted}
-use Rattle.vs_page.specs.{Log.{Device, Log, flow_to_host, side_of}, Fair.IsFairLog, Held.FitsWire, Open.is_dropped, declared.log.LogEntry.TheVariants.GotPacket}
+use Rattle.vs_page.specs.{Log.{Device, Log, flow_to_host, side_of}, Held.{FitsWire, IsWhole}, Open.is_dropped, declared.log.LogEntry.TheVariants.GotPacket}
 use Rattle.vs_replies.specs.Owed.{reply_to}
-use Rattle.laws_tables.specs.{Steps.{HasEnd, HasNone, is_kept, is_overrun, left, taken, with_clean, with_end, accepted as accepted_as}, Both.{Seat, Takes, after_packet}}
+use Rattle.laws_tables.specs.{Steps.{HasEnd, HasNone, is_kept, left, taken, with_clean, with_end, accepted as accepted_as}, Both.{Seat, Takes, after_packet}}
 use Rattle.laws_tables.{specs.{Both.{after_taking, answered}, Ends.{Ends, FlowEnd, answer_kind, ends_of}, Heard.{IsInOrder, heard_of}, Matches.Matches}, proofs.Keeps.accepts}
-use Rattle.laws_tables.proofs.{Keeps.{drops, has_room, ignores, refuses, takes}, Fair.{got_in_order, got_is_taken}, Slots.{added_slot, no_entry}}
+use Rattle.laws_tables.proofs.{Keeps.{drops, ignores, refuses, takes}, Slots.{added_slot, no_entry}}
 use Rattle.vs_device_parts.specs.{Connections.{new_connection, with_connection, with_dialed, with_reply}, State.{DeviceConnection, DeviceEntry, DeviceState}}
-use Rattle.laws_device.proofs.{Tabling.{IsFitConnection, begun_fits, connection_ends, connection_fits, has_end, left_ends, left_fits, entry_fits, opening_fits}, Seats.Carried}
+use Rattle.laws_device.proofs.{Tabling.{IsFitConnection, begun_fits, connection_ends, connection_fits, has_end, left_ends, left_fits, entry_fits, opening_fits}, Seats.Carried, Sure.{Good, good_order}}
 use Rattle.laws_device.{proofs.Seats.{LeftBy, at_log, seat}, specs.Honest.{IsFitFlow, IsFitReply, ends_of_state, end_in}}
 use Rattle.vs_header.specs.declared.{Header.Header, Kind.TheVariants.Stream}
 
@@ -20,15 +20,15 @@ to_host : (cid : ℕ) (h : Header) → is_dropped Device cid h ≡ false → h.d
 to_host cid h is = grind (arith, nat_tests, common_steps, is)
 
 module _ (carry : Carried) (first port : ℕ) (s : DeviceState) (p : Packet) (log : Log) (was : LeftBy carry first port s.cid s.overrun s.table s.replies s.clean log)
-    (fair : IsFairLog Device (GotPacket p ∷ log)) (wire : FitsWire p.header) where
+    (fair : Good carry.fairly (GotPacket p ∷ log)) (wire : FitsWire p.header) (whole : IsWhole p) where
   abbrev pub Goes : DeviceState → Type 0
   Goes t = LeftBy carry first port t.cid t.overrun t.table t.replies t.clean (GotPacket p ∷ log)
 
   order : IsInOrder (side_of Device (flow_to_host p.header)) (heard_of Device first (flow_to_host p.header) log) p
-  order = got_in_order Device first p log (fair (flow_to_host p.header))
+  order = good_order carry.fairly first p log fair
 
   comes : IsTaken p
-  comes = got_is_taken Device p log (fair (flow_to_host p.header))
+  comes = record { len = whole.len; payload = whole.none; fwd_cnt = wire.fwd_cnt }
 
   abbrev part : Ends
   part = ends_of_state port s
@@ -64,9 +64,6 @@ module _ (carry : Carried) (first port : ℕ) (s : DeviceState) (p : Packet) (lo
     module _ (e : DeviceEntry) (there : Contains s.table.entries e) (flow : flow_to_host p.header ≡ e.flow) where
       has : HasEnd (flow_to_host p.header) e.value.end (ends_of_state port s)
       has = subst (λ (f : Flow). HasEnd f e.value.end (ends_of_state port s)) (sym flow) (has_end s was.fits e there port)
-
-      pub has_its_room : is_overrun (verdict_of e.value.end p.header) ≡ false
-      has_its_room = has_room Device first p e.value.end (ends_of_state port s) log was.matches has fair
 
       -- Its flow may be used again where it leaves cleanly.
       abbrev pub keeps : Bool

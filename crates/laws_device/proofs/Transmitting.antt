@@ -16,7 +16,7 @@ use Rattle.vs_device_parts.specs.State.{DeviceState}
 use Rattle.vs_limits.specs.declared.TheConstants.{DEVICE_REPLIES}
 use Rattle.laws_device.proofs.{Ringing.{Tells, bytes_held, first_is_held, first_there, moves, returned_entries, returned_held, tells_weaker, Telling}, Hearing.{After, Came, Heard}}
 use Rattle.laws_device.proofs.{Hearing.{IsCome, packet_keeps}, Keeping.{Keeps, asking, Lets, keeps_then}, Carrying.{Fact, IsToldBy, StreamedOver, With}, Chains.{Among, Behind}}
-use Rattle.laws_device.proofs.{Seats.{Carried, LeftBy}, Steps.{it_failed, none_came}, Walk.Keeping.keeps_if}
+use Rattle.laws_device.proofs.{Seats.{Carried, LeftBy}, Steps.{it_failed, none_came}, Sure.{Good, Guard, good_fair, good_of, guard_failed, guard_honest, guard_packet, guard_sure}, Walk.Keeping.keeps_if}
 use Rattle.vs_outside.specs.Host.{HostContents}
 use Rattle.vs_proxy_parts.specs.State.{Handshake}
 use Rattle.vs_ring_port.specs.declared.device_ring.Next.TheVariants as next
@@ -70,43 +70,44 @@ module _ (carry : Carried) (lines : List Handshake) (first port : ℕ) (s : Devi
       pub log : Log
       pub entries_are : l.entries ≡ with_packet (λ p. GotPacket p) (packet_held page) log
       pub was : LeftBy carry first port s.cid s.overrun s.table s.replies s.clean log
-      pub fair : IsFairLog Device (with_packet (λ p. GotPacket p) (packet_held page) log)
+      pub fair : Good carry.fairly (with_packet (λ p. GotPacket p) (packet_held page) log)
       pub streams : Streamed host log
 
     abbrev pub Took : Telling
     Took honest host l = (page : List ℕ) × Behind carry.others chain page s.chain l.held × (chain.readable ≡ length page) ×
-        (honest ≡ true → IsTaken page host l)
+        (Guard carry.fairly honest s.failed l.entries → IsTaken page host l)
 
     -- Its header was read.
     abbrev HasRead : Header → Telling
     HasRead h honest host l =
         (page : List ℕ) × Behind carry.others chain page s.chain l.held × (chain.readable ≡ length page) ×
         (h ≡ header_of (take HEADER_LEN page))
-        × (honest ≡ true → IsTaken page host l)
+        × (Guard carry.fairly honest s.failed l.entries → IsTaken page host l)
 
     -- Its len is above what follows the header: then it is no packet.
     short_by : (host : Option HostContents) (h : Header) (page : List ℕ) (log : Log) (o : Option Packet) → packet_held page ≡ o → chain.readable ≡ length page
-        → h ≡ header_of (take HEADER_LEN page) → nat_lt (chain.readable - HEADER_LEN) h.len ≡ true
-        → LeftBy carry first port s.cid s.overrun s.table s.replies s.clean log × Streamed host log → IsFairLog Device (with_packet (λ p. GotPacket p) o log)
+        → h ≡ header_of (take HEADER_LEN page) → nat_lt (chain.readable - HEADER_LEN) h.len ≡ true → carry.fairly ≡ true
+        → LeftBy carry first port s.cid s.overrun s.table s.replies s.clean log × Streamed host log → Good carry.fairly (with_packet (λ p. GotPacket p) o log)
         → LeftBy carry first port s.cid s.overrun s.table s.replies s.clean (with_packet (λ p. GotPacket p) o log) × Streamed host (with_packet (λ p. GotPacket p) o log)
-    short_by host h page log None held readable head short was fair = was
-    short_by host h page log (Some p) held readable head short was fair =
-        let formed = got_formed Device p log (fair (flow_got Device p)) in
+    short_by host h page log None held readable head short sure was fair = was
+    short_by host h page log (Some p) held readable head short sure was fair =
+        let formed = got_formed Device p log (good_fair carry.fairly (GotPacket p ∷ log) sure fair (flow_got Device p)) in
         let whole = (packet_whole page p held).1 in
         let len : h.len ≡ size p = ap (λ (x : Header). x.len) (head ∙ sym (header_is page p held)) ∙ formed.len in
         absurd (grind (arith, nat_tests, short, whole, len, readable))
 
     short_ends : (h : Header) (f : Failure) (c : Situation) → nat_lt (chain.readable - HEADER_LEN) h.len ≡ true
         → IfSome s.chain IsRxChain
-        → Tells (HasRead h) c → Now (failing f s) c
+        → Tells carry.fairly (HasRead h) c → Now (failing f s) c
     short_ends h f c short rx tells = (
       rx,
-      tells_weaker (HasRead h) (IsToldBy carry Streamed first port (failing f s)) (λ hon o l read. (
+      tells_weaker carry.fairly (HasRead h) (IsToldBy carry Streamed first port (failing f s)) (λ hon o l read. (
         λ still. absurd cc,
         λ honest.
-            let k = read.4 honest in
+            let sure = guard_failed carry.fairly hon f l.entries honest in
+            let k = read.4 (guard_sure carry.fairly hon s.failed l.entries sure (guard_honest carry.fairly hon (Some f) l.entries sure honest)) in
             subst (λ (log : Log). LeftBy carry first port s.cid s.overrun s.table s.replies s.clean log × Streamed o log) (sym k.entries_are)
-            (short_by o h read.0 k.log (packet_held read.0) refl read.2 read.3 short (k.was, k.streams) k.fair),
+            (short_by o h read.0 k.log (packet_held read.0) refl read.2 read.3 short sure (k.was, k.streams) k.fair),
       )) c tells,
     )
 
@@ -115,7 +116,7 @@ module _ (carry : Carried) (lines : List Handshake) (first port : ℕ) (s : Devi
         → chain.readable ≡ length page
         → h ≡ header_of (take HEADER_LEN page) → nat_lt (chain.readable - HEADER_LEN) h.len ≡ false
         → l.entries ≡ with_packet (λ p. GotPacket p) o log
-        → LeftBy carry first port s.cid s.overrun s.table s.replies s.clean log → IsFairLog Device (with_packet (λ p. GotPacket p) o log) → Streamed host log
+        → LeftBy carry first port s.cid s.overrun s.table s.replies s.clean log → Good carry.fairly (with_packet (λ p. GotPacket p) o log) → Streamed host log
         → IsCome carry lines first port s chain h wire page host l
     come_by host h page l wire log None held readable head fits entries was fair streams =
         let len : (header_of (take HEADER_LEN page)).len ≡ h.len = ap (λ (x : Header). x.len) (sym head) in
@@ -129,16 +130,16 @@ module _ (carry : Carried) (lines : List Handshake) (first port : ℕ) (s : Devi
           log = log;
           entries_are = entries ∙ ap (λ (q : Packet). GotPacket q ∷ log) same;
           was = was;
-          fair = subst (λ (q : Packet). IsFairLog Device (GotPacket q ∷ log)) same fair;
+          fair = subst (λ (q : Packet). Good carry.fairly (GotPacket q ∷ log)) same fair;
           streams = streams;
           whole = subst IsWhole same (packet_whole page p held).0;
           held = held ∙ ap (λ (q : Packet). Some q) same;
         }
 
-    come_tells : (h : Header) (wire : FitsWire h) (c : Situation) → nat_lt (chain.readable - HEADER_LEN) h.len ≡ false → Tells
+    come_tells : (h : Header) (wire : FitsWire h) (c : Situation) → nat_lt (chain.readable - HEADER_LEN) h.len ≡ false → Tells carry.fairly
         (HasRead h) c
-        → Tells (Came carry lines first port s chain h wire) c
-    come_tells h wire c fits tells = tells_weaker (HasRead h) (Came carry lines first port s chain h wire) (λ hon o l read. (
+        → Tells carry.fairly (Came carry lines first port s chain h wire) c
+    come_tells h wire c fits tells = tells_weaker carry.fairly (HasRead h) (Came carry lines first port s chain h wire) (λ hon o l read. (
       read.0,
       read.1,
       λ honest. let k = read.4 honest in
@@ -149,7 +150,7 @@ module _ (carry : Carried) (lines : List Handshake) (first port : ℕ) (s : Devi
     module _ {A : Type 0} (Q : A → Situation → Type 0) (short : Failure → DeviceTree A) (next : DeviceState × Verdict → DeviceTree A)
         (shorts : (f : Failure) (d : Situation) → Now (failing f s) d → Keeps Q (short f) d)
         (heard : (h : Header) (wire : FitsWire h) (x : DeviceState × Verdict) (d : Situation) → Heard carry lines first port s chain h wire x d → Keeps Q (next x) d) where
-      header_keeps : (h : Header) (wire : FitsWire h) → IfSome s.chain IsRxChain → (c : Situation) → Tells (HasRead h) c
+      header_keeps : (h : Header) (wire : FitsWire h) → IfSome s.chain IsRxChain → (c : Situation) → Tells carry.fairly (HasRead h) c
           → Keeps Q (cond (nat_lt (chain.readable - HEADER_LEN) h.len) (short (failure.PayloadShort h.len (chain.readable - HEADER_LEN))) (bind (on_packet chain h s) next)) c
       header_keeps h wire rx c tells =
           keeps_if asking Q (nat_lt (chain.readable - HEADER_LEN) h.len) _ _ c
@@ -157,13 +158,13 @@ module _ (carry : Carried) (lines : List Handshake) (first port : ℕ) (s : Devi
           (λ fits. keeps_then (Heard carry lines first port s chain h wire) Q (on_packet chain h s) next c
           (packet_keeps carry lines first port s chain h wire c (come_tells h wire c fits tells)) (heard h wire))
 
-      pub read_keeps : IfSome s.chain IsRxChain → (c : Situation) → Tells Took c
+      pub read_keeps : IfSome s.chain IsRxChain → (c : Situation) → Tells carry.fairly Took c
           → Keeps Q (Ask (Ring (Read chain 0 HEADER_LEN)) (λ bytes. let h : Header = header_of bytes in
           cond (nat_lt (chain.readable - HEADER_LEN) h.len) (short (failure.PayloadShort h.len (chain.readable - HEADER_LEN))) (bind (on_packet chain h s) next))) c
       read_keeps rx c tells = (
-        λ front. (refl, queue, λ l is. first_is_held chain (tells l is).0 (tells l is).1.0 l (tells l is).1.1),
+        λ front. (refl, queue, λ l is. first_is_held chain (tells.told l is).0 (tells.told l is).1.0 l (tells.told l is).1.1),
         λ bytes d made. header_keeps (header_of bytes) (made.3 refl) rx d
-            (moves _ _ _ _ _ (λ l. l) c d made.0 made.1 Took (HasRead (header_of bytes)) (λ hon o l asked took fair. (
+            (moves carry.fairly _ _ _ _ _ (λ l. l) c d made.0 made.1 Took (HasRead (header_of bytes)) (λ hon o l asked took fair. (
               took.0,
               took.1,
               took.2,
@@ -176,15 +177,17 @@ module _ (carry : Carried) (lines : List Handshake) (first port : ℕ) (s : Devi
     returns : (h : Header) (wire : FitsWire h) → IfSome s.chain IsRxChain → (x : DeviceState × Verdict) (c : Situation)
         → Heard carry lines first port s chain h wire x c → Keeps TakeEnds (Ask (Ring (Return chain 0)) (λ _. Done (x.0, taken.Packet x.1))) c
     returns h wire rx x c (failed, chain_is, tells) = (
-      (λ less. absurd (omega (arith, less)), λ l is. let was = tells l is in first_there chain was.0 was.1.0 l was.1.1),
+      (λ less. absurd (omega (arith, less)), λ l is. let was = tells.told l is in first_there chain was.0 was.1.0 l was.1.1),
       λ a d made. (
         subst (λ (o : Option Chain). IfSome o IsRxChain) (sym chain_is) rx,
-        moves _ _ _ _ _ (log_returned chain 0) c d made.0.1 made.1 (After carry lines first port s chain h wire x.0)
+        moves carry.fairly _ _ _ _ _ (log_returned chain 0) c d made.0.1 made.1 (After carry lines first port s chain h wire x.0)
             (IsToldBy carry (StreamedOver carry lines first port x.0) first port x.0)
             (λ hon o l asked was fair. (
               λ still. subst (λ (held : List Held). Among carry.others x.0.chain held) (sym (returned_held chain was.0 0 was.1.0 l was.1.1)) was.1.2,
-              λ honest. subst (λ (log : Log). LeftBy carry first port x.0.cid x.0.overrun x.0.table x.0.replies x.0.clean log × StreamedOver carry lines first port x.0 o log)
-                  (sym (returned_entries chain Tx was.0 0 was.1.0 l queue was.1.1)) (was.2 honest),
+              λ honest.
+                  let same = returned_entries chain Tx was.0 0 was.1.0 l queue was.1.1 in
+                  subst (λ (log : Log). LeftBy carry first port x.0.cid x.0.overrun x.0.table x.0.replies x.0.clean log × StreamedOver carry lines first port x.0 o log)
+                  (sym same) (was.2 (subst (λ (log : Log). Guard carry.fairly hon x.0.failed log) same honest)),
             )) tells,
       ),
     )
@@ -192,12 +195,12 @@ module _ (carry : Carried) (lines : List Handshake) (first port : ℕ) (s : Devi
   -- A chain of tx is taken.
   module _ {A : Type 0} (Q : A → Situation → Type 0) (tree : Next → DeviceTree A)
       (some : (chain : Chain) (long : HEADER_LEN ≤ chain.readable) (queue : chain.queue ≡ Tx) (d : Situation) → IfSome s.chain IsRxChain
-      → Tells (Took chain long queue) d → Keeps Q (tree (next.Chain chain)) d)
+      → Tells carry.fairly (Took chain long queue) d → Keeps Q (tree (next.Chain chain)) d)
       (none : (d : Situation) → Now s d → Keeps Q (tree next.None) d) (fails : (f : Failure) (d : Situation) → Now (failing f s) d → Keeps Q (tree (next.Failed f)) d) where
     next_keeps : (answer : Next) (c d : Situation) → s.failed ≡ None → Lets (Ring (Take Tx)) answer c d → Now s c → Keeps Q (tree answer) d
     next_keeps (next.Chain chain) c d going made holds =
         some chain made.3.long made.3.queue_is d holds.0
-        (moves _ _ _ _ _ (log_taken Tx (next.Chain chain) made.0.0) c d made.0.1 made.1 (IsToldBy carry Streamed first port s) (Took chain made.3.long made.3.queue_is)
+        (moves carry.fairly _ _ _ _ _ (log_taken Tx (next.Chain chain) made.0.0) c d made.0.1 made.1 (IsToldBy carry Streamed first port s) (Took chain made.3.long made.3.queue_is)
         (λ hon o l asked was fair. by made.0.0 hon o l asked.0 was fair) holds.1)
       where
         by : (page : Option (List ℕ)) (hon : Bool) (o : Option HostContents) (l : EndLog) → IsTakenAs Tx (next.Chain chain) page
@@ -209,7 +212,15 @@ module _ (carry : Carried) (lines : List Handshake) (first port : ℕ) (s : Devi
           page,
           (l.held, refl, was.0 going),
           asked.1,
-          λ honest. let p = was.1 honest in record { log = l.entries; entries_are = refl; was = p.0; fair = fair honest; streams = p.1 },
+          λ honest.
+              let p = was.1 (guard_packet carry.fairly hon s.failed (λ q. GotPacket q) (packet_held page) l.entries honest) in
+              record {
+                log = l.entries;
+                entries_are = refl;
+                was = p.0;
+                fair = good_of carry.fairly hon s.failed (log_taken Tx (next.Chain chain) (Some page) l).entries honest fair;
+                streams = p.1;
+              },
         )
     next_keeps next.None c d going made holds = none d (none_came carry lines first port Tx s c d made holds)
     next_keeps (next.Failed f) c d going made holds = fails f d (it_failed carry lines first port Tx f s c d going made holds)

@@ -30,7 +30,7 @@ use Rattle.laws_device.proofs.{Carried.Closing.{closing_done as all_closed, clos
 use Rattle.laws_device.specs.{Honest.{IsFitClean, IsFitFlow, IsFitState, IsFresh, IsWith, end_in, ends_of_state, port_after}, Carried.Streamed.{IsStreamed, ports_of}}
 use Rattle.vs_header.specs.declared.Kind.TheVariants.{Stream}
 use Rattle.vs_proxy_parts.specs.State.{Handshake}
-use Rattle.laws_device.proofs.Carrying.{faulted}
+use Rattle.laws_device.proofs.{Carrying.faulted, Sure.{Guard, good_event, good_mark, guard_entry}}
 use Rattle.laws_tables.specs.Steps as steps
 use Rattle.vs_outside.specs.declared.host_net.StreamWrite.TheVariants as write
 use Rattle.vs_ring_port.specs.declared.device_ring.Next.TheVariants as next
@@ -102,41 +102,44 @@ module _ (carry : Carried) (lines : List Handshake) (first port : ℕ) where
     event_long : (bytes : List ℕ) → Bytes bytes → 4 ≤ length bytes
     event_long bytes is = let few = length-take 4 bytes in let four : length (take 4 bytes) ≡ 4 = ap length is in omega (arith, few, four)
 
-    event_returned : (c : Situation) → Tells (Writes carry first port s (Streamed s) chain Bytes Rest) c
-        → ((d : Situation) → Tells (IsToldBy carry (Streamed s) first port s) d → Keeps Q next d) → Keeps Q (Ask (Ring (Return chain 4)) (λ _. next)) c
+    event_returned : (c : Situation) → Tells carry.fairly (Writes carry first port s (Streamed s) chain Bytes Rest) c
+        → ((d : Situation) → Tells carry.fairly (IsToldBy carry (Streamed s) first port s) d → Keeps Q next d) → Keeps Q (Ask (Ring (Return chain 4)) (λ _. next)) c
     event_returned c tells goes = (
       (
         λ some. record {
           room = room;
-          written = λ l is. event_long (bytes_in chain l.held) (tells l is).0.1;
+          written = λ l is. event_long (bytes_in chain l.held) (tells.told l is).0.1;
           whole = λ honest l is.
-              subst (λ (q : Queue). IsWholePacket q (take 4 (bytes_in chain l.held)) l) (sym queue) (ap length (tells l is).0.1);
+              subst (λ (q : Queue). IsWholePacket q (take 4 (bytes_in chain l.held)) l) (sym queue) (ap length (tells.told l is).0.1);
         },
-        λ l is. held_there chain l.held (tells l is).0.0,
+        λ l is. held_there chain l.held (tells.told l is).0.0,
       ),
-      λ a d made. goes d (moves _ _ _ _ _ (log_returned chain 4) c d made.0.1 made.1 (Writes carry first port s (Streamed s) chain Bytes Rest) (IsToldBy carry (Streamed s) first port s)
+      λ a d made. goes d (moves carry.fairly _ _ _ _ _ (log_returned chain 4) c d made.0.1 made.1 (Writes carry first port s (Streamed s) chain Bytes Rest) (IsToldBy carry (Streamed s) first port s)
           (λ hon o l asked was fair. (
             was.0.2,
             λ honest.
-                let p = (was.1 honest).0 in
-                subst (λ (log : Log). LeftBy carry first port s.cid s.overrun s.table s.replies s.clean log × Streamed s o log)
-                (sym (ap (λ (q : Queue). entries_returned q (take 4 (bytes_in chain l.held)) l.entries) queue
-                ∙ ap (λ (bytes : List ℕ). with_event (λ id. PutEvent id) (event_held bytes) l.entries) was.0.1)) (
+                let same : (log_returned chain 4 l).entries ≡ PutEvent 0 ∷ l.entries =
+                ap (λ (q : Queue). entries_returned q (take 4 (bytes_in chain l.held)) l.entries) queue
+                ∙ ap (λ (bytes : List ℕ). with_event (λ id. PutEvent id) (event_held bytes) l.entries) was.0.1 in
+                let guard = guard_entry carry.fairly hon s.failed (PutEvent 0) l.entries (subst (λ (log : Log). Guard carry.fairly hon s.failed log) same honest) in
+                let both = was.1 guard in
+                let p = both.0 in
+                subst (λ (log : Log). LeftBy carry first port s.cid s.overrun s.table s.replies s.clean log × Streamed s o log) (sym same) (
                   record {
                     fits = p.fits;
                     none_overrun = p.none_overrun;
                     matches = puts_event Device first 0 (ends_of_state port s) l.entries p.matches;
-                    fair = p.fair;
+                    fair = good_event carry.fairly 0 l.entries p.fair;
                     seated = carry.step (PutsEvent 0) (seat port s l.entries) refl tt (λ all. all) p.seated;
                   },
                   streams_go carry first lines lines port port s s l.entries (PutEvent 0 ∷ l.entries) (carry.before first (PutEvent 0) l.entries)
-                      (λ h few x. event_streams h l.entries 0 (ports_of carry.stay port s) s.table lines x) o (was.1 honest).1,
+                      (λ h few x. event_streams h l.entries 0 (ports_of carry.stay port s) s.table lines x) o both.1,
                 ),
           )) tells),
     )
 
-    pub event_put : (B : List ℕ → Type 0) (c : Situation) → Tells (Writes carry first port s (Streamed s) chain B Rest) c
-        → ((d : Situation) → Tells (IsToldBy carry (Streamed s) first port s) d → Keeps Q next d)
+    pub event_put : (B : List ℕ → Type 0) (c : Situation) → Tells carry.fairly (Writes carry first port s (Streamed s) chain B Rest) c
+        → ((d : Situation) → Tells carry.fairly (IsToldBy carry (Streamed s) first port s) d → Keeps Q next d)
         → Keeps Q (Ask (Ring (Write chain 0 (little_bytes 4 0))) (λ _. Ask (Ring (Return chain 4)) (λ _. next))) c
     event_put B c tells goes =
         write_keeps carry first port s (Streamed s) Q (Ask (Ring (Return chain 4)) (λ _. next)) chain B Bytes Rest (little_bytes 4 0) 0 c
@@ -150,7 +153,7 @@ module _ (carry : Carried) (lines : List Handshake) (first port : ℕ) where
     event_keeps : (answer : Next) (c d : Situation) → s.failed ≡ None → Lets (Ring (Take Event)) answer c d → Now s c → Keeps PayEnds (event_on answer s) d
     event_keeps (next.Chain chain) c d going made holds =
         event_put s PayEnds (Done (record s { event_owed = false }, Ok true)) chain made.3.queue_is made.3.long is_unwritten d
-        (moves _ _ _ _ _ (log_taken Event (next.Chain chain) made.0.0) c d made.0.1 made.1 (IsToldBy carry (Streamed s) first port s)
+        (moves carry.fairly _ _ _ _ _ (log_taken Event (next.Chain chain) made.0.0) c d made.0.1 made.1 (IsToldBy carry (Streamed s) first port s)
         (Writes carry first port s (Streamed s) chain is_unwritten (λ held. s.failed ≡ None → Among carry.others s.chain held))
         (λ hon o l asked was fair. by made.0.0 hon o l asked.0 was) holds.1) (λ e told. (holds.0, told))
       where
@@ -309,28 +312,31 @@ module _ (carry : Carried) (lines : List Handshake) (first port : ℕ) where
         → IsToldBy carry (Streamed (after_reset cid t)) first port (after_reset cid t) hon o (log_reset cid l)
     emptied_with t hon o l was = (
       was.0,
-      λ honest. let p = (was.1 honest).0 in let all_host = of_host_fit t.clean p.fits.clean_fit in (
-        record {
-          fits = record {
-            cid_fits = cid_fits;
-            sound = empty_table t.table p.fits.sound;
-            entries = λ i d within. absurd (omega (arith, within));
-            owed = λ i d within. absurd (omega (arith, within));
-            clean_fit = p.fits.clean_fit;
-          };
-          none_overrun = p.none_overrun;
-          matches = subst (λ (fs : List Flow). Matches Device first (record (ends_of_state port (after_reset cid t)) { clean = fs }) (Mark cid ∷ l.entries)) all_host
-              (makes_reset Device first cid (ends_of_state port t) l.entries p.matches);
-          fair = p.fair;
-          seated = subst (λ (fs : List Flow). carry.holds (record { part = record (ends_of_state port (after_reset cid t)) { clean = fs }; log = Mark cid ∷ l.entries })) all_host
-              (carry.step (MakesReset cid) (seat port t l.entries) refl tt (λ all. all) p.seated);
-        },
-        streams_go carry first lines lines port port (after_reset cid t) (after_reset cid t) l.entries (Mark cid ∷ l.entries) (carry.before first (Mark cid) l.entries)
-            (λ h few x. mark_streams h l.entries cid (ports_of carry.stay port t) (emptied t.table) lines x) o
-            (λ ok few. some_from o (λ h. IsClosing [] t.table h l.entries (ports_of carry.stay port t) lines)
-            (λ h. IsStreamed h l.entries (ports_of carry.stay port t) (emptied t.table) lines)
-            (λ h x. all_closed h l.entries (ports_of carry.stay port t) t.table lines x) ((was.1 honest).1 ok few)),
-      ),
+      λ honest.
+          let both = was.1 (guard_entry carry.fairly hon t.failed (Mark cid) l.entries honest) in
+          let p = both.0 in
+          let all_host = of_host_fit t.clean p.fits.clean_fit in (
+            record {
+              fits = record {
+                cid_fits = cid_fits;
+                sound = empty_table t.table p.fits.sound;
+                entries = λ i d within. absurd (omega (arith, within));
+                owed = λ i d within. absurd (omega (arith, within));
+                clean_fit = p.fits.clean_fit;
+              };
+              none_overrun = p.none_overrun;
+              matches = subst (λ (fs : List Flow). Matches Device first (record (ends_of_state port (after_reset cid t)) { clean = fs }) (Mark cid ∷ l.entries)) all_host
+                  (makes_reset Device first cid (ends_of_state port t) l.entries p.matches);
+              fair = good_mark carry.fairly cid l.entries p.fair;
+              seated = subst (λ (fs : List Flow). carry.holds (record { part = record (ends_of_state port (after_reset cid t)) { clean = fs }; log = Mark cid ∷ l.entries })) all_host
+                  (carry.step (MakesReset cid) (seat port t l.entries) refl tt (λ all. all) p.seated);
+            },
+            streams_go carry first lines lines port port (after_reset cid t) (after_reset cid t) l.entries (Mark cid ∷ l.entries) (carry.before first (Mark cid) l.entries)
+                (λ h few x. mark_streams h l.entries cid (ports_of carry.stay port t) (emptied t.table) lines x) o
+                (λ ok few. some_from o (λ h. IsClosing [] t.table h l.entries (ports_of carry.stay port t) lines)
+                (λ h. IsStreamed h l.entries (ports_of carry.stay port t) (emptied t.table) lines)
+                (λ h x. all_closed h l.entries (ports_of carry.stay port t) t.table lines x) (both.1 ok few)),
+          ),
     )
 
     abbrev ResetEnds : DeviceState × Result (Unit {0}) Failure → Situation → Type 0
@@ -342,7 +348,7 @@ module _ (carry : Carried) (lines : List Handshake) (first port : ℕ) where
       cid_fits,
       λ a d made. (
         holds.0,
-        moves _ _ _ _ _ (log_reset cid) c d made.0 made.1 (IsToldBy carry (Closing [] t) first port t)
+        moves carry.fairly _ _ _ _ _ (log_reset cid) c d made.0 made.1 (IsToldBy carry (Closing [] t) first port t)
             (IsToldBy carry (Streamed (after_reset cid t)) first port (after_reset cid t)) (λ hon o l asked was fair. emptied_with t hon o l was) holds.1,
       ),
     )
@@ -416,7 +422,7 @@ module _ (carry : Carried) (lines : List Handshake) (first port : ℕ) where
         tt,
         λ a d made. (
           holds.0,
-          host_moves false (λ h. Unit {0}) (after_label stream flow) c d made (IsToldBy carry F first port s)
+          host_moves carry.fairly false (λ h. Unit {0}) (after_label stream flow) c d made (IsToldBy carry F first port s)
               (IsToldBy carry (StreamedOver carry lines first onward (with_client flow stream s)) first onward (with_client flow stream s))
               (opened_with free) holds.1,
         ),

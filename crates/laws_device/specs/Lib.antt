@@ -6,3 +6,4 @@ pub mod Dropped
 pub mod Walk
 pub mod Named
 pub mod Carried
+pub mod Told

@@ -18,4 +18,5 @@ pub mod Stepping
 pub mod Stopping
 pub mod Walking
 pub mod Sighting
+pub mod Ordering
 pub mod Carried

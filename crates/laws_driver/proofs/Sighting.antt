@@ -96,7 +96,7 @@ module _ (P : Sight) (small : Small P) where
       left_seen es (with_reply (reset_reply e) m) table_is (with_reply_fits m (reset_reply e) l.fits (entry_fits s e fits stands).ports)
       (small.leaves e s fits.sound stands x)
 
-  pub poll_sees : (first : ℕ) → Carries true first (λ part s log. Sees P s)
+  pub poll_sees : (first : ℕ) → Carries true true first (λ part s log. Sees P s)
   poll_sees first = record {
     owed = λ what e s log fits stands owes m was fair x. paid_seen what e s fits.sound stands owes x;
     reply = λ r rest s log fits is m fair x. x;

@@ -2,6 +2,7 @@
 use Rattle.std.proofs.Common.{◌≡◌, ℕ, ◌<◌, ◌≤◌, ◌&&◌, Bool, true, false, cond, List, [], ◌∷◌, ◌++◌, Option, Some, None, refl, sym, ap, subst, ◌∙◌, arith, rules}
 use Rattle.std.proofs.lemmas.{Bool.{Decides.nat_tests, and_parts, eqb-true}, Grind.common_steps, List.Elements.All-push}
 use Rattle.vs_conn.{specs.{End.{ConnectionEnd, answering, end_after, is_of, is_refused, is_reset, verdict_of}, declared.end.Verdict.Verdict, Shut.is_both}, proofs.Frames.got_kind}
+use Rattle.vs_conn.specs.Follows.{IsTaken}
 use Rattle.vs_header.specs.declared.{Header.Header, Kind.{Kind, TheVariants.Stream}}
 use Rattle.laws_history.specs.{Packets.{is_rst, is_clean_rst}, declared.packet.Packet.Packet}
 use Rattle.vs_limits.specs.declared.TheConstants.{BUF_ALLOC, HOST_CID, LAST_ID, DRIVER_CONNECTIONS}
@@ -12,7 +13,7 @@ use Rattle.vs_wrap.specs.Wrap.{counted}
 use Rattle.vs_replies.specs.{Owed.reply_to, declared.Reply.Reply}
 use Rattle.laws_tables.specs.{Ends.{Ends, FlowEnd, answer_kind, ends_of}, Steps.{HasEnd, HasNone, accepted, is_kept, is_message, left, taken, with_clean, with_end}}
 use Rattle.laws_tables.{specs.{Both.{after_taking, answered, after_packet as after_packet_on}, Heard.{IsInOrder, heard_of}, Matches.Matches}, proofs.Keeps.{accepts, drops}}
-use Rattle.laws_tables.proofs.{Keeps.{ignores, refuses, takes}, Fair.{got_in_order, got_is_taken, got_not_refused, heard_all}, Slots.{added_slot, found_by, no_entry}}
+use Rattle.laws_tables.proofs.{Keeps.{ignores, refuses, takes}, Fair.{got_not_refused, heard_all}, Slots.{added_slot, found_by, no_entry}}
 use Rattle.vs_driver_parts.specs.{Receiving.{after_packet, after_verdict, is_request, may_open, on_heard, on_known, on_packet, on_unknown, with_reply}, Playing.FitsPorts}
 use Rattle.vs_driver_parts.specs.State.{DriverConnection, DriverEntry, DriverState, slots_held}
 use Rattle.vs_driver_parts.specs.Connections.{after_leaving, waits_no_more, with_connection, with_request, keeping}
@@ -22,13 +23,21 @@ use Rattle.laws_driver.proofs.{Tabling.{opening_fits, replies_fit, leaves_kept},
 use Rattle.vs_conn.specs.declared.end.Verdict.TheVariants as verdict
 use Rattle.laws_history.specs.Packets as packets
 
--- The driver t after it got a packet, whose log was this: it took the packet.
-pub record Gets (hosts : Bool) (first : ℕ) (p : Packet) (s : DriverState) (log : Log) (t : DriverState) : Type 0 where
-  pub matches : Matches Driver first (ends_of_state t) (GotPacket p ∷ log)
+-- The driver t after it got a packet: it took the packet, and where packets come in order, its connections are those that a log with it leaves.
+-- One that keeps the log fair wasn't refused, where the guest has asked the host alone.
+pub record Gets (hosts : Bool) (p : Packet) (s t : DriverState) : Type 0 where
+  pub matches : (first : ℕ) (log : Log) → let f = flow_got Driver p in
+      Matches Driver first (ends_of_state s) log → IsInOrder (side_of Driver f) (heard_of Driver first f log) p
+      → Matches Driver first (ends_of_state t) (GotPacket p ∷ log)
   pub fits : IsFitState hosts t
-  pub broken : hosts ≡ true → t.broken ≡ s.broken
+  pub broken : (first : ℕ) (log : Log) → Matches Driver first (ends_of_state s) log → IsFairLog Driver (GotPacket p ∷ log) → hosts ≡ true
+      → t.broken ≡ s.broken
   pub answer : Bool
   pub ends : ends_of_state t ≡ after_taking Driver p answer (ends_of_state s)
+
+-- Its fields fit.
+taken_whole : (p : Packet) → FitsPorts p.header → IsWhole p → IsTaken p
+taken_whole p ports whole = record { len = whole.len; payload = whole.none; fwd_cnt = ports.fwd_cnt }
 
 -- A packet that isn't dropped, by the ends of its flow.
 by_ends : (p : Packet) (answer : Bool) (part : Ends) (es : List ConnectionEnd) → is_dropped Driver part.cid p.header ≡ false
@@ -96,26 +105,26 @@ leaving : (e : ConnectionEnd) (h : Header) → (is_message (verdict_of e h) && i
 leaving = search rules
 
 -- A packet of a connection.
-known : (hosts : Bool) (first : ℕ) (p : Packet) (e : DriverEntry) (s : DriverState) (log : Log) → IsFitState hosts s → Stands s e → flow_got Driver p ≡ e.flow → IsWhole p
-    → is_dropped Driver s.cid p.header ≡ false → Matches Driver first (ends_of_state s) log → IsFairLog Driver (GotPacket p ∷ log) → Gets hosts first p s log (on_known p e s)
-known hosts first p e s log fits stands same whole kept_in m fair =
+known : (hosts : Bool) (p : Packet) (e : DriverEntry) (s : DriverState) → IsFitState hosts s → Stands s e → flow_got Driver p ≡ e.flow → FitsPorts p.header
+    → IsWhole p → is_dropped Driver s.cid p.header ≡ false → Gets hosts p s (on_known p e s)
+known hosts p e s fits stands same ports whole kept_in =
     let f : Flow = flow_got Driver p in
     let end : ConnectionEnd = e.value.end in
     let part : Ends = ends_of_state s in
     let has : HasEnd f end part = subst (λ (g : Flow). HasEnd g end part) (sym same) (has_end s e fits stands) in
-    let kept : hosts ≡ true → is_refused (verdict_of end p.header) ≡ false = λ all.
+    let kept : (first : ℕ) (log : Log) → Matches Driver first part log → IsFairLog Driver (GotPacket p ∷ log) → hosts ≡ true
+    → is_refused (verdict_of end p.header) ≡ false = λ first log m fair all.
     let host : f.peer ≡ HOST_CID = ap (λ (g : Flow). g.peer) same ∙ (entry_fits s e fits stands).peer all in
     got_not_refused Driver first p end part log m.flows has (fair f) (heard_all first f log host) in
     let held = (entry_fits s e fits stands).buffer in
     let by = takes_by p e s fits stands (verdict_of end p.header) refl whole held in
     let ends : ends_of_state (on_known p e s) ≡ taken Driver e.flow end p part = by.0 ∙ leaves_by p e s fits stands (verdict_of end p.header) (leaving end p.header) in
-    let now : Matches Driver first (taken Driver f end p part) (GotPacket p ∷ log) =
-    takes Driver first p end part log m kept_in has (got_in_order Driver first p log (fair f)) (got_is_taken Driver p log (fair f)) in
     let at : taken Driver f end p part ≡ ends_of_state (on_known p e s) = ap (λ (g : Flow). taken Driver g end p part) same ∙ sym ends in
     record {
-      matches = subst (λ (x : Ends). Matches Driver first x (GotPacket p ∷ log)) at now;
+      matches = λ first log m order. subst (λ (x : Ends). Matches Driver first x (GotPacket p ∷ log)) at
+          (takes Driver first p end part log m kept_in has order (taken_whole p ports whole));
       fits = by.1;
-      broken = λ all. by.2 (kept all);
+      broken = λ first log m fair all. by.2 (kept first log m fair all);
       answer = false;
       ends = sym at ∙ by_ends p false part (end ∷ []) kept_in has;
     }
@@ -136,23 +145,19 @@ may_open_as f s is = grind (arith, common_steps)
 answering_held : (h : Header) (id : ℕ) → IsHeldBy (record { id = id; end = answering Stream BUF_ALLOC h; unread = []; unanswered = true; closed = false })
 answering_held h id = record { unread = refl; fits = omega arith; space = omega arith; least = omega arith; alloc = omega arith; rx_cnt = omega arith; fwd_cnt = omega arith }
 
-module _ (hosts : Bool) (first : ℕ) (p : Packet) (s : DriverState) (log : Log) (fits : IsFitState hosts s) (none : entry_of s.table (flow_to_guest p.header) ≡ None)
-    (ports : FitsPorts p.header) (kept_in : is_dropped Driver s.cid p.header ≡ false) (m : Matches Driver first (ends_of_state s) log)
-    (fair : IsFairLog Driver (GotPacket p ∷ log)) where
+module _ (hosts : Bool) (p : Packet) (s : DriverState) (fits : IsFitState hosts s) (none : entry_of s.table (flow_to_guest p.header) ≡ None)
+    (ports : FitsPorts p.header) (whole : IsWhole p) (kept_in : is_dropped Driver s.cid p.header ≡ false) where
   no_end : HasNone (flow_got Driver p) (ends_of_state s)
   no_end = no_entry end_in s.table (flow_to_guest p.header) none
-
-  order : IsInOrder (side_of Driver (flow_got Driver p)) (heard_of Driver first (flow_got Driver p) log) p
-  order = got_in_order Driver first p log (fair (flow_got Driver p))
 
   flow_fits : IsFitFlow (flow_to_guest p.header)
   flow_fits = record { guest = ports.dst_port; host = ports.src_port; peer = ports.src_cid }
 
-  replied : is_rst p ≡ false → Gets hosts first p s log (with_reply (reply_to (flow_to_guest p.header) p.header) s)
+  replied : is_rst p ≡ false → Gets hosts p s (with_reply (reply_to (flow_to_guest p.header) p.header) s)
   replied other = record {
-    matches = refuses Driver first p (ends_of_state s) log m kept_in no_end other order;
+    matches = λ first log m order. refuses Driver first p (ends_of_state s) log m kept_in no_end other order;
     fits = with_reply_fits s (reply_to (flow_to_guest p.header) p.header) fits flow_fits;
-    broken = λ all. refl;
+    broken = λ first log m fair all. refl;
     answer = false;
     ends = refused_by (packets.is_request p)
         ∙ ap (λ (b : Bool). cond b (ends_of_state s) (answered (packets.is_request p) false p (flow_got Driver p) (ends_of_state s))) (sym other)
@@ -164,17 +169,17 @@ module _ (hosts : Bool) (first : ℕ) (p : Packet) (s : DriverState) (log : Log)
       refused_by true = refl
       refused_by false = refl
 
-  was_ignored : is_rst p ≡ true → Gets hosts first p s log s
+  was_ignored : is_rst p ≡ true → Gets hosts p s s
   was_ignored rst = record {
-    matches = ignores Driver first p (ends_of_state s) log m kept_in no_end rst order;
+    matches = λ first log m order. ignores Driver first p (ends_of_state s) log m kept_in no_end rst order;
     fits = fits;
-    broken = λ all. refl;
+    broken = λ first log m fair all. refl;
     answer = false;
     ends = ap (λ (b : Bool). cond b (ends_of_state s) (answered (packets.is_request p) false p (flow_got Driver p) (ends_of_state s))) (sym rst)
         ∙ by_ends p false (ends_of_state s) [] kept_in no_end;
   }
 
-  was_accepted : is_request p.header ≡ true → may_open (flow_to_guest p.header) s ≡ true → Gets hosts first p s log (with_request (flow_to_guest p.header) p.header s)
+  was_accepted : is_request p.header ≡ true → may_open (flow_to_guest p.header) s ≡ true → Gets hosts p s (with_request (flow_to_guest p.header) p.header s)
   was_accepted asks may =
       let f : Flow = flow_to_guest p.header in
       let room = may_open_as f s may in
@@ -186,14 +191,14 @@ module _ (hosts : Bool) (first : ℕ) (p : Packet) (s : DriverState) (log : Log)
       let ends : ends_of_state (with_request f p.header s) ≡ accepted f Stream p.header (ends_of_state s) =
       ap (λ (es : List FlowEnd). let part : Ends = record (ends_of_state s) { entries = es } in part) (added_slot end_in s.table f c) in
       record {
-        matches = subst (λ (x : Ends). Matches Driver first x (GotPacket p ∷ log)) (sym ends)
-            (accepts Driver first Stream p (ends_of_state s) log m kept_in no_end order (got_is_taken Driver p log (fair (flow_got Driver p))) request
+        matches = λ first log m order. subst (λ (x : Ends). Matches Driver first x (GotPacket p ∷ log)) (sym ends)
+            (accepts Driver first Stream p (ends_of_state s) log m kept_in no_end order (taken_whole p ports whole) request
             (eqb-true p.header.kind 1 asks_for.0));
         fits = opening_fits s f c s.next_port s.clean fits free flow_fits (λ all. room.peer) (answering_held p.header s.next_id) refl fits.port_left (omega arith)
             (λ own. let both : true ≡ false = sym asked ∙ own in absurd cc) fits.clean_fit
             (clean_entry s.next_port s.next_port s.table f c s.clean fits.clean_sound
             (none_assigned s.next_port s.table f s.clean fits.clean_sound asked) (omega arith));
-        broken = λ all. refl;
+        broken = λ first log m fair all. refl;
         answer = true;
         ends = ends
             ∙ ap (λ (k : Kind). accepted f k p.header (ends_of_state s)) (sym (ap answer_kind (eqb-true p.header.kind 1 asks_for.0)))
@@ -205,36 +210,36 @@ module _ (hosts : Bool) (first : ℕ) (p : Packet) (s : DriverState) (log : Log)
       not_rst : packets.is_request p ≡ true → is_rst p ≡ false
       not_rst is = grind (arith, nat_tests, common_steps, is)
 
-  unknown : Gets hosts first p s log (on_unknown p s)
+  unknown : Gets hosts p s (on_unknown p s)
   unknown = by (is_reset p.header) (is_request p.header) (may_open (flow_to_guest p.header) s) refl refl refl
     where
       by : (a b c : Bool) → is_reset p.header ≡ a → is_request p.header ≡ b → may_open (flow_to_guest p.header) s ≡ c
-          → Gets hosts first p s log (cond a s (cond (b && c) (with_request (flow_to_guest p.header) p.header s) (with_reply (reply_to (flow_to_guest p.header) p.header) s)))
+          → Gets hosts p s (cond a s (cond (b && c) (with_request (flow_to_guest p.header) p.header s) (with_reply (reply_to (flow_to_guest p.header) p.header) s)))
       by true b c av bv cv = was_ignored av
       by false true true av bv cv = was_accepted bv cv
       by false true false av bv cv = replied av
       by false false c av bv cv = replied av
 
 -- A packet that is got.
-pub gets_packet : (hosts : Bool) (first : ℕ) (p : Packet) (s : DriverState) (log : Log) → IsFitState hosts s → FitsPorts p.header → IsWhole p
-    → Matches Driver first (ends_of_state s) log → IsFairLog Driver (GotPacket p ∷ log) → Gets hosts first p s log (on_packet p s)
-gets_packet hosts first p s log fits ports whole m fair = drop_by (is_dropped Driver s.cid p.header) refl
+pub gets_packet : (hosts : Bool) (p : Packet) (s : DriverState) → IsFitState hosts s → FitsPorts p.header → IsWhole p
+    → Gets hosts p s (on_packet p s)
+gets_packet hosts p s fits ports whole = drop_by (is_dropped Driver s.cid p.header) refl
   where
     by : (o : Option DriverEntry) → entry_of s.table (flow_to_guest p.header) ≡ o → is_dropped Driver s.cid p.header ≡ false
-        → Gets hosts first p s log (on_heard p s)
+        → Gets hosts p s (on_heard p s)
     by None none kept_in =
-        subst (λ (t : DriverState). Gets hosts first p s log t) (sym (packet_unknown p s none)) (unknown hosts first p s log fits none ports kept_in m fair)
+        subst (λ (t : DriverState). Gets hosts p s t) (sym (packet_unknown p s none)) (unknown hosts p s fits none ports whole kept_in)
     by (Some e) found kept_in =
         let passes = found_by (λ (x : DriverEntry). same_flow (flow_to_guest p.header) x.flow) s.table.entries e found in
         let stands : Stands s e = record { under = found_under _ s.table e fits.sound found; contains = passes.0 } in
         let same = same_is (flow_to_guest p.header) e.flow passes.1 in
-        subst (λ (t : DriverState). Gets hosts first p s log t) (sym (packet_known p s e found)) (known hosts first p e s log fits stands same whole kept_in m fair)
+        subst (λ (t : DriverState). Gets hosts p s t) (sym (packet_known p s e found)) (known hosts p e s fits stands same ports whole kept_in)
 
-    drop_by : (b : Bool) → is_dropped Driver s.cid p.header ≡ b → Gets hosts first p s log (cond b s (on_heard p s))
+    drop_by : (b : Bool) → is_dropped Driver s.cid p.header ≡ b → Gets hosts p s (cond b s (on_heard p s))
     drop_by true dropped = record {
-      matches = drops Driver first p (ends_of_state s) log m dropped (λ asks. got_in_order Driver first p log (fair (flow_got Driver p)));
+      matches = λ first log m order. drops Driver first p (ends_of_state s) log m dropped (λ asks. order);
       fits = fits;
-      broken = λ all. refl;
+      broken = λ first log m fair all. refl;
       answer = false;
       ends = ap (λ (b : Bool). cond b (ends_of_state s)
           (after_packet_on Driver (ends_of (flow_got Driver p) (ends_of_state s).entries) p (flow_got Driver p) false (ends_of_state s))) (sym dropped);

@@ -16,25 +16,25 @@ module _ (hosts : Bool) (first : ℕ) (w : Seat) where
       → Goes Driver w (seat t (PutPacket p ∷ log))
   puts_goes p s page t log puts goes = goes_on Driver w (seat s log) (seat t (PutPacket p ∷ log)) puts.step (puts.may log) (puts.leads log) goes
 
-  pub poll_goes : Carries hosts first (goes_from w)
+  pub poll_goes : Carries true hosts first (goes_from w)
   poll_goes = record {
     owed = λ what e s log fits stands owes m was fair goes. puts_goes _ s _ _ log (owed_puts what e s fits stands owes) goes;
     reply = λ r rest s log fits is m fair goes. puts_goes _ s _ (record s { replies = rest }) log (reply_puts r rest s fits is) goes;
     got = λ p s log fits ports whole m was fair goes.
-        let g = gets_packet hosts first p s log fits ports whole m fair in
+        let g = gets_packet hosts p s fits ports whole in
         goes_on Driver w (seat s log) _ (Takes p g.answer) tt (at_log _ _ _ (sym g.ends)) goes;
     event = λ id s log goes. goes_on Driver w (seat s log) _ (TakesEvent id) refl refl goes;
     reset = λ cid s log less fits goes. goes_on Driver w (seat s log) _ (TakesReset cid) refl (at_log _ _ _ (sym (resets cid s less fits).ends)) goes;
   }
 
   pub connect_goes : (peer to : ℕ) → peer < 2 ^ 64 → to < 2 ^ 32 → (hosts ≡ true → peer ≡ HOST_CID)
-      → CarriesConnect hosts first peer to (goes_from w) (λ answer. goes_from w)
+      → CarriesConnect true hosts first peer to (goes_from w) (λ answer. goes_from w)
   connect_goes peer to peer_fits to_fits all = record {
     refused = λ why s log goes. goes;
     opens = λ s log fits free m was fair goes. puts_goes _ s _ _ log (connect_puts peer to s peer_fits to_fits all fits free) goes;
   }
 
-  pub send_goes : (id : ℕ) (bytes : List ℕ) → CarriesSend hosts first id bytes (goes_from w) (λ answer. goes_from w)
+  pub send_goes : (id : ℕ) (bytes : List ℕ) → CarriesSend true hosts first id bytes (goes_from w) (λ answer. goes_from w)
   send_goes id bytes = record {
     stopped = λ why s log goes. goes;
     unknown = λ s log none goes. goes;

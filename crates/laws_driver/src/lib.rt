@@ -4,4 +4,5 @@
 
 pub mod laws;
 pub mod payload;
+pub mod told;
 pub mod waiting;

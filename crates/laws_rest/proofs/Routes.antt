@@ -55,7 +55,7 @@ abbrev is_kind : Kind → Bool
 is_kind k = kind_number k == kind_number Stream
 
 -- Of each call.
-poll_routes : (first : ℕ) → Carries true first (Routed first)
+poll_routes : (first : ℕ) → Carries true true first (Routed first)
 poll_routes first = record {
   owed = λ what e s log fits stands owes m was fair routed from.
       let p = owed_on Driver s.cid e.flow e.value.end what in
@@ -70,7 +70,7 @@ poll_routes first = record {
   reset = λ cid s log less fits routed. routed;
 }
 
-connect_routes : (first host : ℕ) → CarriesConnect true first HOST_CID host (Routed first) (λ answer. Routed first)
+connect_routes : (first host : ℕ) → CarriesConnect true true first HOST_CID host (Routed first) (λ answer. Routed first)
 connect_routes first host = record {
   refused = λ why s log routed. routed;
   opens = λ s log fits free m was fair routed from.
@@ -79,38 +79,38 @@ connect_routes first host = record {
       (not_dropped (cid_of first log) s.cid p.header refl m.flows.cid host_is, (λ asks. refl), routed from);
 }
 
-send_routes : (first id : ℕ) (bytes : List ℕ) → CarriesSend true first id bytes (Routed first) (λ answer. Routed first)
+send_routes : (first id : ℕ) (bytes : List ℕ) → CarriesSend true true first id bytes (Routed first) (λ answer. Routed first)
 send_routes first id bytes = grind (arith, common_steps)
 
 module _ (first : ℕ) (s : DriverState) (c d : RingContents) (honest : IsHonestWith true first s c) (routed : IsRoutedWith first c) where
-  starts : Rests true first (Routed first) s c
+  starts : Rests true true first (Routed first) s c
   starts on l is = ((rests_of true first s c honest on l is).0, routed on l is)
 
-  ends : {X : Type 0} (tree : DriverTree (DriverState × X)) (x : DriverState × X) → Keeps (λ y e. Rests true first (Routed first) y.0 e) tree c
+  ends : {X : Type 0} (tree : DriverTree (DriverState × X)) (x : DriverState × X) → Keeps (λ y e. Rests true true first (Routed first) y.0 e) tree c
       → Plays tree c x d
       → IsRoutedWith first d
-  ends tree x keeps plays on l is = let kept : Rests true first (Routed first) x.0 d = keeps_end _ tree c d x keeps plays in (kept on l is).1
+  ends tree x keeps plays on l is = let kept : Rests true true first (Routed first) x.0 d = keeps_end _ tree c d x keeps plays in (kept on l is).1
 
   pub connect_routed : (host : ℕ) (x : DriverState × Result ℕ ConnectError) → host < 2 ^ 32 → Plays (connect_of host s) c x d
       → IsRoutedWith first d
   connect_routed host x port =
-      ends (connect_of host s) x (connect_keeps true first HOST_CID host (Routed first) (λ answer. Routed first)
+      ends (connect_of host s) x (connect_keeps true true first HOST_CID host (Routed first) (λ answer. Routed first)
       (connect_routes first host) (omega arith) port (λ hosts. refl) s c starts)
 
   pub send_routed : (id : ℕ) (bytes : List ℕ) (x : DriverState × Sent) → Plays (send_of id bytes s) c x d → IsRoutedWith first d
   send_routed id bytes x =
-      ends (send_of id bytes s) x (send_keeps true first id bytes (Routed first) (λ answer. Routed first)
+      ends (send_of id bytes s) x (send_keeps true true first id bytes (Routed first) (λ answer. Routed first)
       (send_routes first id bytes) s c starts)
 
   pub poll_routed : (x : DriverState × Polled) → Plays (poll_of s) c x d → IsRoutedWith first d
-  poll_routed x = ends (poll_of s) x (poll_keeps true first (Routed first) (poll_routes first) s c starts)
+  poll_routed x = ends (poll_of s) x (poll_keeps true true first (Routed first) (poll_routes first) s c starts)
 
 pub new_routed : (size port id : ℕ) (c d : RingContents) (s : DriverState) → port ≤ LAST_PORT → IsFresh c
     → Plays (new_of size port id) c s d
     → IsRoutedWith s.cid d
 new_routed size port id c d s fits fresh plays on l is =
     let fact : Fact = λ part slots log. (first : ℕ) → IsRoutedLog first log in
-    let kept : Rests true s.cid fact s d =
-    keeps_end (λ t e. Rests true t.cid fact t e) (new_of size port id) c d s
-    (new_keeps size port id fits fact (λ cid first from. tt) c fresh) plays in
+    let kept : Rests true true s.cid fact s d =
+    keeps_end (λ t e. Rests true true t.cid fact t e) (new_of size port id) c d s
+    (new_keeps size port id fits true fact (λ cid first from. tt) c fresh) plays in
     (kept on l is).1 s.cid

@@ -20,7 +20,7 @@ module _ (first : ℕ) (old : Seat) where
   abbrev pub Walks : Account → Fact → Fact → Fact
   Walks a names sent part s log = Goes Driver old (record { part = part; log = log }) × PutsFit log × IsFurther a (slots_of s) log × names part s log × sent part s log
 
-  pub poll_walks : (a : Account) (s : DriverState) (base : Log) → Carries true first (Walks a (named_from s (LookAt 0)) (puts_as base))
+  pub poll_walks : (a : Account) (s : DriverState) (base : Log) → Carries true true first (Walks a (named_from s (LookAt 0)) (puts_as base))
   poll_walks a start base =
       let goes = poll_goes true first old in
       let received = poll_carries first a in

@@ -80,7 +80,7 @@ module _ (device : EndLog) (fit : PutsFit device.entries) where
   came log page lists None held tied p is = let both : None ≡ Some p = sym held ∙ is in absurd cc
   came log page lists (Some p) held tied r is =
       let wire = next_fits log device.entries p (held_in packet_held lists.rx.back, tied.rx) fit in
-      let ports : FitsPorts p.header = record { src_port = wire.src_port; dst_port = wire.dst_port; src_cid = wire.src_cid } in
+      let ports : FitsPorts p.header = record { src_port = wire.src_port; dst_port = wire.dst_port; src_cid = wire.src_cid; fwd_cnt = wire.fwd_cnt } in
       let both : Some p ≡ Some r = sym held ∙ is in
       let same : p ≡ r = cc in
       subst (λ (x : Packet). FitsPorts x.header) same ports

@@ -148,7 +148,7 @@ module _ {I : Type 0} (P : I → Sight) (May : I → ℕ → Type 0) (kept : (i 
   abbrev pub AllKept : Fact
   AllKept part s log = (i : I) → start i → Sees (P i) s
 
-  pub poll_kept : (first : ℕ) → Carries true first AllKept
+  pub poll_kept : (first : ℕ) → Carries true true first AllKept
   poll_kept first =
       let seen = λ (i : I). poll_sees (λ port. P i) (small_kept (P i) (kept i)) first in
       record {

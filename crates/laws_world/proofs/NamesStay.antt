@@ -81,7 +81,7 @@ module _ {fresh : Type 0} (w : World) (well : IsWell fresh w) (rest : w.rings.dr
   connect_told host id port is =
       let told = rests_on fresh w well (connect_of host w.driver) (λ x. x.0) Before (λ x. After id x.1) rest
       (well.waiting, well.right.received.numbers.given, well.right.received.numbers.slots)
-      (λ rests. connect_keeps true first_cid HOST_CID host Before (After id) (record {
+      (λ rests. connect_keeps true true first_cid HOST_CID host Before (After id) (record {
         refused = λ why s log held is. absurd cc;
         opens = λ s log fits free m was fair held is.
             let same : s.next_id ≡ id = cc in

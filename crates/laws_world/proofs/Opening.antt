@@ -101,11 +101,11 @@ module _ (b : Beginning) (host : HostContents) where
   ties : Ties (empty_ends b.pages).device tt ((opening b host).rings.lists, (opening b host).rings.driver)
   ties =
       let e : Ends = empty_ends b.pages in
-      (walk e.device tt (λ s d. Rests true s.cid nothing s d) (new_of b.pages b.first 1) (e.lists, e.driver) (record {
+      (walk e.device tt (λ s d. Rests true true s.cid nothing s d) (new_of b.pages b.first 1) (e.lists, e.driver) (record {
         tied = record { driver_fair = λ f. tt; device_fair = λ f. tt; tx = refl; rx = refl; event = refl; no_event = refl };
         cid = omega arith;
         pages = (tt, tt, tt);
-      }) (new_keeps b.pages b.first 1 (leb-true _ _ b.within) nothing (λ cid. tt) _ fresh)).1
+      }) (new_keeps b.pages b.first 1 (leb-true _ _ b.within) true nothing (λ cid. tt) _ fresh)).1
     where
       fresh : true ≡ true → ForSome (Some (empty_ends b.pages).driver) (λ l. (l.entries ≡ []) × (l.staged.tx ≡ []))
       fresh on l is =

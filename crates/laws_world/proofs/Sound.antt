@@ -122,14 +122,14 @@ module _ (fresh : Type 0) (w : World) (well : IsWell fresh w) where
   same_told is = cc
 
   -- Where nothing is staged, and where packets may be.
-  ties_at : (fact : Fact) → Holds fact w.driver (log_with_staged w.rings.driver) → DriverTies true first_cid fact w.driver (exposed rings)
-  ties_at fact held = λ on l is. subst (IsTiedBy true first_cid fact w.driver) (same_told is) (
+  ties_at : (fact : Fact) → Holds fact w.driver (log_with_staged w.rings.driver) → DriverTies true true first_cid fact w.driver (exposed rings)
+  ties_at fact held = λ on l is. subst (IsTiedBy true true first_cid fact w.driver) (same_told is) (
     (well.driver, record { none_refused = λ hosts. well.broken; matches = well.sound.matches Driver; fair = well.sound.fair Driver; marks = well.marks }),
     held,
   )
 
-  rests_at : (fact : Fact) → w.rings.driver.staged.tx ≡ [] → Holds fact w.driver (log_with_staged w.rings.driver) → Rests true first_cid fact w.driver (exposed rings)
-  rests_at fact none held = λ on l is. subst (RestsWith true first_cid fact w.driver) (same_told is) (
+  rests_at : (fact : Fact) → w.rings.driver.staged.tx ≡ [] → Holds fact w.driver (log_with_staged w.rings.driver) → Rests true true first_cid fact w.driver (exposed rings)
+  rests_at fact none held = λ on l is. subst (RestsWith true true first_cid fact w.driver) (same_told is) (
     (
       well.driver,
       subst (λ (pages : List (List ℕ)). IsLeft true first_cid w.driver.broken (ends_of_state w.driver) pages w.rings.driver.entries) none
@@ -140,13 +140,13 @@ module _ (fresh : Type 0) (w : World) (well : IsWell fresh w) where
   )
 
   driver_goes : {A : Type 0} (tree : DriverTree A) (state_of : A → DriverState) (fact : A → Fact) (journal : Journal)
-      → Keeps (λ x d. DriverTies true first_cid (fact x) (state_of x) d) tree (exposed rings)
+      → Keeps (λ x d. DriverTies true true first_cid (fact x) (state_of x) d) tree (exposed rings)
       → (let r = played driver_answer tree rings in Plays tree (exposed rings) r.0 (exposed r.1) → (part : Ends) (s : DriverState) (log : Log)
       → fact r.0 part s log → Left guest well.opened w.driver w.journal journal part s log)
       → Goes well (record (driver_plays tree w).1 { driver = state_of (driver_plays tree w).0; journal = journal })
   driver_goes tree state_of fact journal keeps left =
       let r = played driver_answer tree rings in
-      let ends = walk w.rings.device well.device_puts (λ x d. DriverTies true first_cid (fact x) (state_of x) d) tree rings tie keeps in
+      let ends = walk w.rings.device well.device_puts (λ x d. DriverTies true true first_cid (fact x) (state_of x) d) tree rings tie keeps in
       let now = keeps_end _ tree _ _ _ keeps ends.0 refl r.1.1 refl in
       let after = left ends.0 _ _ _ now.1 in
       let runs = goes_run (both_of w).device guest _ after.goes
@@ -181,7 +181,7 @@ module _ (fresh : Type 0) (w : World) (well : IsWell fresh w) where
   -- What a conversation carries from a driver of which no packet is staged.
   pub rests_on : {A : Type 0} (tree : DriverTree A) (state_of : A → DriverState) (before : Fact) (after : A → Fact) → w.rings.driver.staged.tx ≡ []
       → Holds before w.driver (log_with_staged w.rings.driver)
-      → (Rests true first_cid before w.driver (exposed rings) → Keeps (λ x d. Rests true first_cid (after x) (state_of x) d) tree (exposed rings))
+      → (Rests true true first_cid before w.driver (exposed rings) → Keeps (λ x d. Rests true true first_cid (after x) (state_of x) d) tree (exposed rings))
       → let r = played driver_answer tree rings in Holds (after r.0) (state_of r.0) r.1.1.entries
   rests_on tree state_of before after none held keeps =
       let kept = keeps (rests_at before none held) in (keeps_end _ tree _ _ _ kept (walk w.rings.device well.device_puts _ tree rings tie kept).0 refl _ refl).1
@@ -203,38 +203,38 @@ module _ (fresh : Type 0) (w : World) (well : IsWell fresh w) where
   at_step : Holds step_fact w.driver guest.log
   at_step = (seat_stays Driver guest guest refl, well.driver_puts, further, from_here (LookAt 0), λ c. refl)
 
-  steps : Carries true first_cid step_fact
+  steps : Carries true true first_cid step_fact
   steps = poll_walks first_cid guest account w.driver guest.log
 
-  step_goes : (step : DriverState → DriverTree DriverState) → Keeps (DriverTies true first_cid step_fact) (step w.driver) (exposed rings)
+  step_goes : (step : DriverState → DriverTree DriverState) → Keeps (DriverTies true true first_cid step_fact) (step w.driver) (exposed rings)
       → Goes well (driver_step step w)
   step_goes step keeps = driver_goes (step w.driver) (λ s. s) (λ s. step_fact) w.journal keeps
       (λ plays. poll_left first_cid guest well.opened w.journal w.driver guest.log well.right)
 
-  works_at : (queue : Queue) → works_on queue w.rings.driver.staged ≡ true → Works queue true first_cid step_fact w.driver (exposed rings)
+  works_at : (queue : Queue) → works_on queue w.rings.driver.staged ≡ true → Works queue true true first_cid step_fact w.driver (exposed rings)
   works_at q.Tx may = ties_at step_fact at_step
   works_at q.Rx may = rests_at step_fact (nothing_staged w.rings.driver.staged.tx (and_parts _ _ may).0) at_step
   works_at q.Event may = rests_at step_fact (nothing_staged w.rings.driver.staged.tx (and_parts _ _ may).1) at_step
 
-  works_ties : (queue : Queue) (s : DriverState) (c : RingContents) → Works queue true first_cid step_fact s c → DriverTies true first_cid step_fact s c
+  works_ties : (queue : Queue) (s : DriverState) (c : RingContents) → Works queue true true first_cid step_fact s c → DriverTies true true first_cid step_fact s c
   works_ties q.Tx s c works = works
-  works_ties x s c works = rests_tied true first_cid step_fact s c works
+  works_ties x s c works = rests_tied true true first_cid step_fact s c works
 
   takes_goes : (queue : Queue) → works_on queue w.rings.driver.staged ≡ true → Goes well (driver_step (takes_page queue) w)
   takes_goes queue may = step_goes (takes_page queue)
-      (keeps_weaker (Works queue true first_cid step_fact) (DriverTies true first_cid step_fact) (works_ties queue) (takes_page queue w.driver) (exposed rings)
-      (takes_with true first_cid step_fact steps queue w.driver (exposed rings) (works_at queue may)))
+      (keeps_weaker (Works queue true true first_cid step_fact) (DriverTies true true first_cid step_fact) (works_ties queue) (takes_page queue w.driver) (exposed rings)
+      (takes_with true true first_cid step_fact steps queue w.driver (exposed rings) (works_at queue may)))
 
   publishes_goes : (queue : Queue) → works_on queue w.rings.driver.staged ≡ true → Goes well (driver_step (publish_of queue) w)
   publishes_goes queue may = step_goes (publish_of queue)
-      (keeps_weaker (Rests true first_cid step_fact) (DriverTies true first_cid step_fact) (rests_tied true first_cid step_fact) (publish_of queue w.driver) (exposed rings)
-      (publish_with true first_cid step_fact steps queue w.driver (exposed rings) (works_at queue may)))
+      (keeps_weaker (Rests true true first_cid step_fact) (DriverTies true true first_cid step_fact) (rests_tied true true first_cid step_fact) (publish_of queue w.driver) (exposed rings)
+      (publish_with true true first_cid step_fact steps queue w.driver (exposed rings) (works_at queue may)))
 
   replies_goes : Goes well (driver_step stages_reply w)
-  replies_goes = step_goes stages_reply (reply_with true first_cid step_fact steps w.driver (exposed rings) (ties_at step_fact at_step))
+  replies_goes = step_goes stages_reply (reply_with true true first_cid step_fact steps w.driver (exposed rings) (ties_at step_fact at_step))
 
   pays_goes : (slot : ℕ) → Goes well (driver_step (stages_owed slot) w)
-  pays_goes slot = step_goes (stages_owed slot) (owed_with true first_cid step_fact steps slot w.driver (exposed rings) (ties_at step_fact at_step))
+  pays_goes slot = step_goes (stages_owed slot) (owed_with true true first_cid step_fact steps slot w.driver (exposed rings) (ties_at step_fact at_step))
 
   -- A call of the guest's.
   calls_goes : (call : GuestCall) → is_right call ≡ true → w.rings.driver.staged.tx ≡ [] → Goes well (call_made call w).0
@@ -242,7 +242,7 @@ module _ (fresh : Type 0) (w : World) (well : IsWell fresh w) where
       let before : Fact = Before first_cid guest account w.driver guest.log call in
       let after : ReplyTo call → Fact = After first_cid guest account w.driver guest.log call in
       driver_goes (makes_call call w.driver) (λ x. x.0) (λ x. after x.1) (with_call call w.driver (call_made call w).1 w.journal)
-      (keeps_weaker (λ x d. Rests true first_cid (after x.1) x.0 d) (λ x d. DriverTies true first_cid (after x.1) x.0 d) (λ x d rests. rests_tied true first_cid (after x.1) x.0 d rests)
+      (keeps_weaker (λ x d. Rests true true first_cid (after x.1) x.0 d) (λ x d. DriverTies true true first_cid (after x.1) x.0 d) (λ x d rests. rests_tied true true first_cid (after x.1) x.0 d rests)
       (makes_call call w.driver) (exposed rings)
       (made_with first_cid w.driver (exposed rings) call before after right (call_walks first_cid guest account w.driver guest.log call right)
       (rests_at before none (seat_stays Driver guest guest refl, well.driver_puts, further, from_here call, (refl, refl)))))

@@ -37,11 +37,12 @@ CanMake (Publish queue) c = CanPublish queue c
 CanMake (Reap queue) c = Unit {0}
 CanMake LoadCid c = Unit {0}
 
--- What a ring may answer: a packet that a page brings has ports of 32 bits and a source of 64, and the guest's CID has 64.
+-- What a ring may answer: a packet that a page brings has ports of 32 bits, a source of 64 and a fwd_cnt of 32, and the guest's CID has 64.
 pub record FitsPorts (h : Header) : Type 0 where
   pub src_port : h.src_port < 2 ^ 32
   pub dst_port : h.dst_port < 2 ^ 32
   pub src_cid : h.src_cid < 2 ^ 64
+  pub fwd_cnt : h.fwd_cnt < 2 ^ 32
 
 abbrev pub BringsFit : List ℕ → Type 0
 BringsFit page = ForSome (packet_held page) (λ p. FitsPorts p.header)

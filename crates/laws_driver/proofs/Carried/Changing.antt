@@ -99,7 +99,7 @@ accept_slots port s = grind (arith, common_steps)
 
 -- send.
 pub send_receives : (first id : ℕ) (bytes : List ℕ) (a : Account)
-    → CarriesSend true first id bytes (λ part t log. AreReceived a log (slots_of t)) (λ answer part t log. AreReceived a log (slots_of t))
+    → CarriesSend true true first id bytes (λ part t log. AreReceived a log (slots_of t)) (λ answer part t log. AreReceived a log (slots_of t))
 send_receives first id bytes a = record {
   stopped = λ why s log x. x;
   unknown = λ s log none x. x;

@@ -66,7 +66,7 @@ connected_received a host s log fits free fair x =
           (opened_received x.0 log new (slots_of s) f c port x.2 got nothing next others refl refl absent (port_rises s.next_port f.guest) below later clean)),
     )
 
-pub connect_carries : (first host : ℕ) (a : Account) → CarriesConnect true first HOST_CID host (Further a) (λ answer. Further a)
+pub connect_carries : (first host : ℕ) (a : Account) → CarriesConnect true true first HOST_CID host (Further a) (λ answer. Further a)
 connect_carries first host a = record {
   refused = λ why s log x. x;
   opens = λ s log fits free m was fair x. connected_received a host s log fits free fair x;

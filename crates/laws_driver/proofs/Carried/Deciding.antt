@@ -11,18 +11,18 @@ use Rattle.laws_driver.proofs.Carried.{Making.{call_goes, made_with, whole_with}
 
 module _ (first : ℕ) (k : Connection) (s : DriverState) (c d : RingContents) (honest : IsHonestWith true first s c) where
   ends_past : {A : Type 0} (tree : DriverTree A) (state_of : A → DriverState) (x : A)
-      → ((w : Seat) → Rests true first (goes_from w) s c → Keeps (λ y e. Rests true first (goes_from w) (state_of y) e) tree c)
+      → ((w : Seat) → Rests true true first (goes_from w) s c → Keeps (λ y e. Rests true true first (goes_from w) (state_of y) e) tree c)
       → Plays tree c x d → StaysPast k s (state_of x) c d
   ends_past tree state_of x keeps plays on l is m told past =
       let v : Seat = seat s l.entries in
       let still = honest_stays tree c d x plays ∙ on in
-      let kept : Rests true first (goes_from v) (state_of x) d =
+      let kept : Rests true true first (goes_from v) (state_of x) d =
       keeps_end _ tree c d x (keeps v (begins first (goes_from v) s c l is (stays Driver v v refl) honest)) plays in
       goes_past Driver first k v (seat (state_of x) m.entries) (kept still m told).1 (honest on l is).matches
       (honest_of true first (goes_from v) (state_of x) d kept still m told).fair past
 
   pub poll_past : (x : DriverState × Polled) → Plays (poll_of s) c x d → StaysPast k s x.0 c d
-  poll_past x = ends_past (poll_of s) (λ y. y.0) x (λ w. poll_keeps true first (goes_from w) (poll_goes true first w) s c)
+  poll_past x = ends_past (poll_of s) (λ y. y.0) x (λ w. poll_keeps true true first (goes_from w) (poll_goes true first w) s c)
 
   module _ (call : GuestCall) (x : DriverState × ReplyTo call) (right : is_right call ≡ true) where
     pub call_past : Plays (whole_call call s) c x d → StaysPast k s x.0 c d

@@ -11,32 +11,32 @@ use Rattle.laws_driver.specs.{Honest.slots_of, Carried.{Received.{Account, AreRe
 abbrev pub received_by : Account → Fact
 received_by a part s log = AreReceived a log (slots_of s)
 
-pub further_from : (first : ℕ) (a : Account) (s : DriverState) (c : RingContents) → IsHonestWith true first s c → IsReceivedWith a s c → Rests true first (Further a) s c
+pub further_from : (first : ℕ) (a : Account) (s : DriverState) (c : RingContents) → IsHonestWith true first s c → IsReceivedWith a s c → Rests true true first (Further a) s c
 further_from first a s c honest account = λ on l is.
     (at_rest true first s l (honest on l is), (a, record { first_id = refl; opened = λ id some. refl; received = λ id. refl }, account on l is))
 
 pub send_ends : (first id : ℕ) (bytes : List ℕ) (a : Account) (s : DriverState) (c d : RingContents) (x : DriverState × Sent)
     → IsHonestWith true first s c → IsReceivedWith a s c → Plays (send_of id bytes s) c x d → IsReceivedWith a x.0 d
 send_ends first id bytes a s c d x honest account plays = λ on l is.
-    let starts : Rests true first (received_by a) s c = λ on l is. (at_rest true first s l (honest on l is), account on l is) in
-    let kept : Rests true first (received_by a) x.0 d =
-    keeps_end _ (send_of id bytes s) c d x (send_keeps true first id bytes _ _ (send_receives first id bytes a) s c starts) plays in
+    let starts : Rests true true first (received_by a) s c = λ on l is. (at_rest true first s l (honest on l is), account on l is) in
+    let kept : Rests true true first (received_by a) x.0 d =
+    keeps_end _ (send_of id bytes s) c d x (send_keeps true true first id bytes _ _ (send_receives first id bytes a) s c starts) plays in
     (kept on l is).1
 
 -- The account goes on.
 pub poll_ends : (first : ℕ) (a : Account) (s : DriverState) (c d : RingContents) (x : DriverState × Polled)
     → IsHonestWith true first s c → IsReceivedWith a s c → Plays (poll_of s) c x d → GoesOnWith a x.0 d
 poll_ends first a s c d x honest account plays = λ on l is.
-    let kept : Rests true first (Further a) x.0 d =
-    keeps_end _ (poll_of s) c d x (poll_keeps true first (Further a) (poll_carries first a) s c (further_from first a s c honest account)) plays in
+    let kept : Rests true true first (Further a) x.0 d =
+    keeps_end _ (poll_of s) c d x (poll_keeps true true first (Further a) (poll_carries first a) s c (further_from first a s c honest account)) plays in
     (kept on l is).1
 
 pub connect_ends : (first host : ℕ) (a : Account) (s : DriverState) (c d : RingContents) (x : DriverState × Result ℕ ConnectError) → host < 2 ^ 32
     → IsHonestWith true first s c → IsReceivedWith a s c → Plays (connect_of host s) c x d → GoesOnWith a x.0 d
 connect_ends first host a s c d x port honest account plays = λ on l is.
-    let kept : Rests true first (Further a) x.0 d =
+    let kept : Rests true true first (Further a) x.0 d =
     keeps_end _ (connect_of host s) c d x
-    (connect_keeps true first HOST_CID host (Further a) _ (connect_carries first host a) (omega arith) port (λ all. refl) s c (further_from first a s c honest account)) plays in
+    (connect_keeps true true first HOST_CID host (Further a) _ (connect_carries first host a) (omega arith) port (λ all. refl) s c (further_from first a s c honest account)) plays in
     (kept on l is).1
 
 -- Nothing was sent before the first call.
@@ -49,7 +49,7 @@ starts id part s log = IsRightJournal id (no_account id).opened [] log (slots_of
 pub new_righted : (size port id : ℕ) (c d : RingContents) (s : DriverState) → port ≤ LAST_PORT → IsFresh c → Plays (new_of size port id) c s d
     → IsRightWith id (no_account id).opened [] s d
 new_righted size port id c d s fits fresh plays = λ on l is.
-    let kept : Rests true s.cid (starts id) s d =
-    keeps_end (λ t e. Rests true t.cid (starts id) t e) (new_of size port id) c d s
-    (new_keeps size port id fits (starts id) (λ cid. none_righted size port id) c fresh) plays in
+    let kept : Rests true true s.cid (starts id) s d =
+    keeps_end (λ t e. Rests true true t.cid (starts id) t e) (new_of size port id) c d s
+    (new_keeps size port id fits true (starts id) (λ cid. none_righted size port id) c fresh) plays in
     (kept on l is).1

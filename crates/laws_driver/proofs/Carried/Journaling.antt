@@ -10,8 +10,8 @@ use Rattle.laws_driver.proofs.Carried.{Polling.Further, Sending.begins}
 
 -- A conversation that carries what the call carries.
 abbrev pub Carried : ℕ → (call : GuestCall) → DriverTree (DriverState × ReplyTo call) → DriverState → RingContents → Type 1
-Carried first call tree s c = (before : Fact) (after : ReplyTo call → Fact) → CarriesCall first call before after → Rests true first before s c
-    → Keeps (λ x d. Rests true first (after x.1) x.0 d) tree c
+Carried first call tree s c = (before : Fact) (after : ReplyTo call → Fact) → CarriesCall first call before after → Rests true true first before s c
+    → Keeps (λ x d. Rests true true first (after x.1) x.0 d) tree c
 
 module _ (first : ℕ) (call : GuestCall) (tree : DriverTree (DriverState × ReplyTo call)) (s : DriverState) (c d : RingContents)
     (x : DriverState × ReplyTo call) (carried : Carried first call tree s c) (honest : IsHonestWith true first s c) (plays : Plays tree c x d) where
@@ -22,13 +22,13 @@ module _ (first : ℕ) (call : GuestCall) (tree : DriverTree (DriverState × Rep
       a : Account
       a = account_of first_id opened journal
 
-      kept : Rests true first (Further (account_after call x.1 a)) x.0 d
+      kept : Rests true true first (Further (account_after call x.1 a)) x.0 d
       kept = keeps_end _ tree c d x (carried (Further a) (λ reply. Further (account_after call reply a)) (call_received first call a)
           (further_from first a s c honest account)) plays
 
   pub sent_just : PutsJust (sent_of call x.1 s) c d
   sent_just = λ on l is m told k.
-      let kept : Rests true first (sent_with first s l.entries call x.1) x.0 d =
+      let kept : Rests true true first (sent_with first s l.entries call x.1) x.0 d =
       keeps_end _ tree c d x (carried (at_first first s l.entries) (sent_with first s l.entries call) (call_sent first s l.entries call)
       (begins first (at_first first s l.entries) s c l is (refl, refl) honest)) plays in
       (kept (honest_stays tree c d x plays ∙ on) m told).1 k

@@ -25,8 +25,8 @@ AtOnce P (Done x) = P x
 AtOnce P (Ask call next) = ⊥
 
 abbrev pub CarriesCall : ℕ → (call : GuestCall) → Fact → (ReplyTo call → Fact) → Type 0
-CarriesCall first (Connect port) before after = CarriesConnect true first HOST_CID port before after
-CarriesCall first (Send id bytes) before after = CarriesSend true first id bytes before after
+CarriesCall first (Connect port) before after = CarriesConnect true true first HOST_CID port before after
+CarriesCall first (Send id bytes) before after = CarriesSend true true first id bytes before after
 CarriesCall first call before after = (s : DriverState) (log : Log) → IsFitState true s → Matches Driver first (ends_of_state s) log → Holds before s log
     → AtOnce (λ x. Holds (after x.1) x.0 log) (makes_call call s)
 
@@ -45,31 +45,31 @@ unlistened port s fits false = same s fits
 
 module _ (first : ℕ) (s : DriverState) (c : RingContents) where
   pub made_with : (call : GuestCall) (before : Fact) (after : ReplyTo call → Fact) → is_right call ≡ true → CarriesCall first call before after
-      → Rests true first before s c → Keeps (λ x d. Rests true first (after x.1) x.0 d) (makes_call call s) c
-  made_with (Connect port) before after right steps rests = connects_with true first HOST_CID port before after steps (omega arith) (port_fits port right) (λ all. refl) s c rests
-  made_with (Send id bytes) before after right steps rests = sends_with true first id bytes before after steps s c rests
+      → Rests true true first before s c → Keeps (λ x d. Rests true true first (after x.1) x.0 d) (makes_call call s) c
+  made_with (Connect port) before after right steps rests = connects_with true true first HOST_CID port before after steps (omega arith) (port_fits port right) (λ all. refl) s c rests
+  made_with (Send id bytes) before after right steps rests = sends_with true true first id bytes before after steps s c rests
   made_with (Listen port) before after right steps rests =
-      changed_rests true first before (after (listen_of port s)) s _ c (λ fits. listened port s fits (listen_of port s)) (steps s) rests
+      changed_rests true true first before (after (listen_of port s)) s _ c (λ fits. listened port s fits (listen_of port s)) (steps s) rests
   made_with (Unlisten port) before after right steps rests =
       let found : Bool = is_some (listener_on port s.listeners) in
-      changed_rests true first before (after found) s _ c (λ fits. unlistened port s fits found) (steps s) rests
+      changed_rests true true first before (after found) s _ c (λ fits. unlistened port s fits found) (steps s) rests
   made_with (Accept port) before after right steps rests =
-      changed_rests true first before (after (accept_of port s)) s _ c (accept_changes port s) (steps s) rests
+      changed_rests true true first before (after (accept_of port s)) s _ c (accept_changes port s) (steps s) rests
   made_with (Recv id n) before after right steps rests =
-      changed_rests true first before (after (recv_of id n s, bytes_got (recv_of id n s) (unread_of_id id s))) s _ c (recv_changes id n s) (steps s) rests
+      changed_rests true true first before (after (recv_of id n s, bytes_got (recv_of id n s) (unread_of_id id s))) s _ c (recv_changes id n s) (steps s) rests
   made_with (Shutdown id bits) before after right steps rests =
-      changed_rests true first before (after (shutdown_of id s)) s _ c (shutdown_changes id bits s) (steps s) rests
+      changed_rests true true first before (after (shutdown_of id s)) s _ c (shutdown_changes id bits s) (steps s) rests
   made_with (Grow id alloc) before after right steps rests =
-      changed_rests true first before (after (grow_of id alloc s)) s _ c (grow_changes id alloc s) (steps s) rests
+      changed_rests true true first before (after (grow_of id alloc s)) s _ c (grow_changes id alloc s) (steps s) rests
   made_with (Close id) before after right steps rests =
-      changed_rests true first before (after (close_of id s)) s _ c (close_changes id s) (steps s) rests
-  made_with (LookAt id) before after right steps rests = changed_rests true first before (after (state_of id s)) s s c (same s) (steps s) rests
+      changed_rests true true first before (after (close_of id s)) s _ c (close_changes id s) (steps s) rests
+  made_with (LookAt id) before after right steps rests = changed_rests true true first before (after (state_of id s)) s s c (same s) (steps s) rests
 
   -- The same of the whole call.
   pub whole_with : (call : GuestCall) (before : Fact) (after : ReplyTo call → Fact) → is_right call ≡ true → CarriesCall first call before after
-      → Rests true first before s c → Keeps (λ x d. Rests true first (after x.1) x.0 d) (whole_call call s) c
-  whole_with (Connect port) before after right steps rests = connect_keeps true first HOST_CID port before after steps (omega arith) (port_fits port right) (λ all. refl) s c rests
-  whole_with (Send id bytes) before after right steps rests = send_keeps true first id bytes before after steps s c rests
+      → Rests true true first before s c → Keeps (λ x d. Rests true true first (after x.1) x.0 d) (whole_call call s) c
+  whole_with (Connect port) before after right steps rests = connect_keeps true true first HOST_CID port before after steps (omega arith) (port_fits port right) (λ all. refl) s c rests
+  whole_with (Send id bytes) before after right steps rests = send_keeps true true first id bytes before after steps s c rests
   whole_with call before after right steps rests = made_with call before after right steps rests
 
 -- Steps of the driver's seat.
@@ -91,7 +91,7 @@ abbrev pub account_after : (call : GuestCall) → ReplyTo call → Account → A
 account_after (Recv id n) reply a = with_received id reply.1 a
 account_after _ reply a = a
 
-send_further : (first id : ℕ) (bytes : List ℕ) (a : Account) → CarriesSend true first id bytes (Further a) (λ answer. Further a)
+send_further : (first id : ℕ) (bytes : List ℕ) (a : Account) → CarriesSend true true first id bytes (Further a) (λ answer. Further a)
 send_further first id bytes a = record {
   stopped = λ why s log x. x;
   unknown = λ s log none x. x;

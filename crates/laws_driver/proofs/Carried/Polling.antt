@@ -298,7 +298,7 @@ heard_received first a p s log fits whole m was fair x = drop_by (is_dropped Dri
             let both : true ≡ false = sym dropped ∙ of_host (sym (ap (λ (f : Flow). f.peer) on) ∙ entry.peer refl) in
             cc
 
-pub poll_carries : (first : ℕ) (a : Account) → Carries true first (Further a)
+pub poll_carries : (first : ℕ) (a : Account) → Carries true true first (Further a)
 poll_carries first a = record {
   owed = λ what e s log fits stands owes m was fair x.
       (x.0, x.1, pays_received what first x.0 e s log fits stands owes m x.2);

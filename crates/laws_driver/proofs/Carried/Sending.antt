@@ -16,7 +16,7 @@ use Rattle.vs_driver_parts.specs.declared.answers.Sent.TheVariants as sent
 
 -- Where a fact holds of the log that a ring tells before a call, it is carried from there.
 pub begins : (first : ℕ) (fact : Fact) (s : DriverState) (c : RingContents) (l : EndLog) → c.log ≡ Some l → Holds fact s l.entries
-    → IsHonestWith true first s c → Rests true first fact s c
+    → IsHonestWith true first s c → Rests true true first fact s c
 begins first fact s c l is held honest = λ on m told.
     let same : l ≡ m = some_same (sym is ∙ told) in
     (at_rest true first s m (honest on m told), subst (λ (k : EndLog). Holds fact s k.entries) same held)
@@ -31,7 +31,7 @@ puts_as log part slots now = (c : Connection) → payload_put Driver c now ≡ p
 more_none : (log now : Log) (c : Connection) → payload_put Driver c now ≡ payload_put Driver c log → payload_put Driver c now ≡ payload_put Driver c log ++ []
 more_none log now c is = is ∙ sym (append-nil (payload_put Driver c log))
 
-pub poll_puts : (first : ℕ) (log : Log) → Carries true first (puts_as log)
+pub poll_puts : (first : ℕ) (log : Log) → Carries true true first (puts_as log)
 poll_puts first log = record {
   owed = λ what e s now fits stands owes m was fair held c. put_none Driver now _ c refl ∙ held c;
   reply = λ r rest s now fits is m fair held c. put_none Driver now _ c refl ∙ held c;
@@ -45,8 +45,8 @@ pub poll_sent : (first : ℕ) (s : DriverState) (c d : RingContents) (x : Driver
     → PutsJust none_on c d
 poll_sent first s c d x honest plays = λ on l is m told k.
     let rests = begins first (puts_as l.entries) s c l is (λ k. refl) honest in
-    let kept : Rests true first (puts_as l.entries) x.0 d =
-    keeps_end _ (poll_of s) c d x (poll_keeps true first _ (poll_puts first l.entries) s c rests) plays in
+    let kept : Rests true true first (puts_as l.entries) x.0 d =
+    keeps_end _ (poll_of s) c d x (poll_keeps true true first _ (poll_puts first l.entries) s c rests) plays in
     more_none l.entries m.entries k ((kept (honest_stays (poll_of s) c d x plays ∙ on) m told).1 k)
 
 -- send.
@@ -86,7 +86,7 @@ module _ (first id : ℕ) (bytes : List ℕ) (s : DriverState) (log : Log) where
   known_then : (t : DriverState) (e : DriverEntry) → t.table ≡ s.table → entry_known_as id t ≡ Some e → entry_known_as id s ≡ Some e
   known_then t e same known = ap (λ (table : Table DriverConnection). find (is_known_as id) table.entries) (sym same) ∙ known
 
-  pub send_puts : CarriesSend true first id bytes before after
+  pub send_puts : CarriesSend true true first id bytes before after
   send_puts = record {
     stopped = λ why t now held. nothing_sent (send_stopped why) now (stop_none bytes why) held.1;
     unknown = λ t now none held. nothing_sent (not_sent id t) now (unknown_none t) held.1;
