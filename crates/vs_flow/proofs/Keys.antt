@@ -1,4 +1,5 @@
 -- Slots whose keys lead to entries: what is found by a slot and by a place, and what insertions, removals and writes leave.
+use Rattle.std.proofs.lemmas.Grind.{common_steps}
 use Rattle.std.proofs.lemmas.{Bool.Decides.nat_tests, List.{Edits.length-remove, Elements.{All-cons, All-map}, Folds.map_fixed, append_assoc, Kept.AllPairs-cons, Sums.sum_by-set}}
 use Rattle.std.proofs.{lemmas.Option.{slice_get_within, slice_get_cases, slice_get_read}, Math.{ListN.get_or-append, Seq.get_or-append_seam}, Common.{◌≡◌, ◌≢◌, ℕ, zero, suc, ◌+◌}}
 use Rattle.std.proofs.Common.{◌<◌, ◌≤◌, Bool, false, not, cond, ◌==◌, List, [], ◌∷◌, ◌++◌, length, map, get_or, Option, Some, None, is_some, inl, inr, refl, ap, sym, subst, ◌∙◌}
@@ -154,10 +155,7 @@ module _ {T : Type 0} (slab : Slab (Entry T)) where
   pub key_of : (slot place : ℕ) (k : ℕ × ℕ) (x : Entry T) (keys : List (ℕ × ℕ)) (es : List (Entry T)) → AreLedTo (get slab) keys es
       → position (λ e. e.slot == slot) es ≡ Some place → k ≡ get_or keys place k → get slab k.1 ≡ Some x
       → IsKeyOf keys es slot place k x
-  key_of slot place k x keys es led is here at =
-      let found = key_found slot place k keys es led is here in
-      let one : Some found.0 ≡ Some x = sym found.1.at ∙ at in
-      subst (IsKeyOf keys es slot place k) (let same : found.0 ≡ x = cc in same) found.1
+  key_of slot place k x keys es led is here at = grind (arith, common_steps, key_found)
 
 module _ {T : Type 0} (old new : Slab (Entry T)) where
   -- of an entry that is added
@@ -177,8 +175,7 @@ module _ {T : Type 0} (old new : Slab (Entry T)) where
   -- where the entry at one key changes, those of other slots stay
   others_stay : (key : ℕ) (x : Entry T) (o : Option (Entry T)) → get old key ≡ Some x → Updates old new key o
       → (k : ℕ) (e : Entry T) → get old k ≡ Some e → e.slot ≢ x.slot → get new k ≡ Some e
-  others_stay key x o at updates k e here differs =
-      updates.others k (λ same. differs (let one : Some e ≡ Some x = sym here ∙ ap (get old) same ∙ at in cc)) ∙ here
+  others_stay key x o at updates k e here differs = grind (arith, common_steps)
 
   -- of an entry that is removed
   pub record IsWithout (es : List (Entry T)) (slot : ℕ) (rest : List (ℕ × ℕ)) : Type 0 where
@@ -233,9 +230,7 @@ module _ {T : Type 0} (old new : Slab (Entry T)) where
   pub led_written : (keys : List (ℕ × ℕ)) (es : List (Entry T)) (slot place : ℕ) (k : ℕ × ℕ) (x : Entry T) (w : T)
       → AreLedTo (get old) keys es → IsRising es → IsKeyOf old keys es slot place k x → Updates old new k.1 (Some (record x { value = w }))
       → AreLedTo (get new) keys (map (revalued slot w) es)
-  led_written keys es slot place k x w led rising is updates =
-      subst (λ n. AreLedTo (get new) keys (map (revalued n w) es)) is.slot_is
-      (written place k x w keys es led rising is.key_at is.there is.at updates)
+  led_written keys es slot place k x w led rising is updates = grind (arith, common_steps, get, written)
 
 module _ {T : Type 0} where
   -- the entry under a slot's key, to write a value to

@@ -1,4 +1,5 @@
 -- What the place of the first element that passes says of it, and of the others.
+use Rattle.std.proofs.lemmas.Grind.{common_steps}
 use Rattle.std.proofs.Common.{◌≡◌, ℕ, suc, ◌+◌, ◌<◌, Bool, true, false, cond, List, [], ◌∷◌, length, nat_lt, Option, Some, None, refl, ap, sym, subst, arith}
 use Rattle.std.{proofs.lemmas.Bool.Decides.nat_tests, specs.{List.{find, position, position_or_len, remove, slice_get}, Option.option_map}}
 use Rattle.vs_flow.specs.{declared.flow.Flow.Flow, CleanPairs.without_oldest}
@@ -9,17 +10,7 @@ module _ (p : Flow → Bool) where
   IsPlaceOfOldest fs (Some i) = (slice_get fs i ≡ find p fs) × (remove fs i ≡ without_oldest p fs) × (i < length fs)
 
   one_later : (a n : ℕ) → cond (nat_lt (1 + a) (suc n)) (Some (1 + a)) None ≡ option_map suc (cond (nat_lt a n) (Some a) None)
-  one_later a n = rw (one, same) (by (nat_lt a n))
-    where
-      one : 1 + a ≡ suc a
-      one = omega arith
-
-      same : nat_lt (suc a) (suc n) ≡ nat_lt a n
-      same = grind (arith, nat_tests)
-
-      by : (b : Bool) → cond b (Some (suc a)) None ≡ option_map suc (cond b (Some a) None)
-      by true = refl
-      by false = refl
+  one_later a n = grind (arith, common_steps)
 
   pub oldest_at : (fs : List Flow) → IsPlaceOfOldest fs (position p fs)
   oldest_at [] = (refl, refl)
