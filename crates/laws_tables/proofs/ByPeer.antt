@@ -1,18 +1,18 @@
 -- What an end puts keeps its log fair by the peer.
 use Rattle.std.proofs.Common.{◌≡◌, ◌≢◌, ℕ, ◌+◌, ◌≤◌, Bool, true, false, if◌then◌else◌, inl, inr, List, [], ◌∷◌, length, Some, refl, sym, ap, ◌∙◌, subst, subst₂, arith}
 use Rattle.std.proofs.lemmas.Grind.{common_steps}
-use Rattle.vs_conn.{specs.{Follows.FitsMessage, declared.end.Owed.Owed, End.{CanSend, ConnectionEnd, owes_of}}, proofs.Steps.{pay_may, send_may}}
+use Rattle.vs_conn.{specs.{Follows.{FitsMessage, IsTaken}, declared.end.Owed.Owed, End.{CanSend, ConnectionEnd, owes_of}}, proofs.Steps.{pay_may, send_may, taken_of}}
 use Rattle.vs_flow.specs.{Flow.{is_host, same_flow}, declared.flow.Flow.Flow}
 use Rattle.vs_header.specs.declared.Kind.{Kind}
-use Rattle.laws_history.specs.{Again.{AllowsNow, MayPutNow, present}, Beside.{is_plain_rst, steadied, steady}, History.{Asker, Got, History, IsFair, MayPut, Put, Side, gots, puts}, declared.packet.Packet.Packet}
-use Rattle.laws_history.specs.Packets.{IsFormed, is_request, is_rst, told_alloc}
-use Rattle.laws_history.proofs.{BesidePairs.{sound_beside, steadied_fair, steady_gots, steady_present, steady_puts}, Fair.{BothSound, sound}, Present.fair_once, Ties.{Later, may_put_later}}
+use Rattle.laws_history.specs.{Again.{AllowsNow, MayPutNow, present}, Beside.{is_plain_rst, steadied, steady}, History.{Answerer, Asker, Got, History, IsFair, MayPut, Put, Side, gots, peer, puts}, declared.packet.Packet.Packet}
+use Rattle.laws_history.specs.Packets.{IsFormed, has, is_clean_rst, is_request, is_rst, told_alloc}
+use Rattle.laws_history.proofs.{BesidePairs.{sound_beside, steadied_fair, steady_gots, steady_present, steady_puts}, Fair.{BothSound, sound}, Present.fair_once, Steady.now_formed, Ties.{Later, may_put_later}}
 use Rattle.vs_page.specs.{Fair.{AllowsTo, IsFairByPeer, IsFairLog, IsFairLogByPeer, IsFairTo}, Log.{Log, Role, and_then, flow_got, flow_put, history_of, side_of, whole_of}, Open.{cid_of, is_dropped}}
 use Rattle.vs_page.{specs.declared.log.LogEntry.TheVariants.{GotEvent, GotPacket, Mark, PutEvent, PutPacket}, proofs.{ByPeer.{allows_by_peer, by_peer, one_got, one_put, plain_puts}, Entries.present_is, Flows.same_is}}
 use Rattle.vs_replies.specs.declared.Reply.{Reply}
-use Rattle.laws_tables.specs.{ByPeer.IsSoundByPeer, Ends.{Ends, is_new}, Heard.{IsWithin, IsWithinCredit, heard_of, hears, own_port, route_of}, Matches.{IsOwed, IsReady, Matches}}
+use Rattle.laws_tables.specs.{ByPeer.IsSoundByPeer, Ends.{Ends, is_new}, Heard.{IsInOrder, IsWithin, IsWithinCredit, heard_of, hears, own_port, route_of}, Matches.{IsOwed, IsReady, Matches}}
 use Rattle.laws_tables.specs.Steps.{HasEnd, owed_on, payload_on, reply_on, request_on}
-use Rattle.laws_tables.proofs.Fair.{heard_puts, known_kind, less_both, less_more, less_none, less_same, open_within, put_keeps_within, reply_may, reply_within, request_allowed}
+use Rattle.laws_tables.proofs.Fair.{asked_first, awaiting_by, awaiting_quiet, fair_order, heard_order, heard_puts, some_by_puts, known_kind, less_both, less_more, less_none, less_same, open_within, put_keeps_within, reply_may, reply_within, request_allowed}
 use Rattle.laws_tables.proofs.{Keeps.{not_request, owed_no_request, silent_fair}, OnFlow.end_follows, Steps.{can_old, owed_flow, payload_flow, reply_flow, request_flow}}
 
 -- The buffer space that a packet got tells isn't less than before.
@@ -228,3 +228,64 @@ replies role first cid r log s owed =
 pub of_fair : (role : Role) (first : ℕ) (part : Ends) (log : Log) → Matches role first part log → IsFairLog role log
     → IsSoundByPeer role first log
 of_fair role first part log m fair = record { fair = by_peer role log fair; within = (m.fairly fair).within }
+
+-- A packet that comes to the end that asks, no plain RST, comes in order, and its fields fit.
+clean_steady : (ps : List Packet) → has is_clean_rst (steady ps) ≡ has is_clean_rst ps
+clean_steady [] = refl
+clean_steady (p ∷ ps) = let rest = clean_steady ps in grind (arith, common_steps)
+
+request_steady : (ps : List Packet) → has is_request (steady ps) ≡ has is_request ps
+request_steady [] = refl
+request_steady (p ∷ ps) = let rest = request_steady ps in grind (arith, common_steps)
+
+-- Of its present connection: it is in order, and the REQUEST was put.
+record Comes (side : Side) (h : History) (p : Packet) : Type 0 where
+  order : IsInOrder side h p
+  begun : has is_request (puts h) ≡ true
+
+comes_steadily : (side : Side) (h : History) (p : Packet) → side ≡ Asker → Comes side (steadied h) p → Comes side h p
+comes_steadily side h p asker c =
+    let begun : has is_request (puts h) ≡ true =
+    sym (request_steady (puts h)) ∙ ap (has is_request) (sym (steady_puts h)) ∙ c.begun in
+    let quiet : has is_clean_rst (gots h) ≡ false =
+    sym (clean_steady (gots h)) ∙ ap (has is_clean_rst) (sym (steady_gots h)) ∙ awaiting_quiet (steadied h) (c.order.asked asker) in
+    record {
+      order = record {
+        request = λ is. (let bad : Asker ≡ Answerer = sym asker ∙ (c.order.request is).0 in absurd cc);
+        asked = λ _. awaiting_by h (some_by_puts h h refl begun) quiet;
+      };
+      begun = begun;
+    }
+
+comes_now : (side : Side) (h : History) (p : Packet) → side ≡ Asker → IsFair side h → AllowsNow side h (Got p) → Comes side h p
+comes_now side h p asker fair may = record { order = fair_order side h p fair may; begun = asked_first side h p may asker }
+
+comes_to : (host : Bool) (side : Side) (w : History) (p : Packet) → side ≡ Asker → is_plain_rst p ≡ false
+    → IsFairTo host side w → AllowsTo host side (present w) (Got p) → Comes side (present w) p
+comes_to true side w p asker plain fair may = comes_now side (present w) p asker (fair_once side w fair) may
+comes_to false side w p asker plain fair may =
+    let k = steadied (present w) in
+    let fair_k = subst (IsFair side) (steady_present w) (fair_once side (steadied w) (steadied_fair side w fair)) in
+    let may_k = subst₂ (λ ps qs. MayPutNow (peer side) ps qs p) (sym (steady_gots (present w))) (sym (steady_puts (present w)))
+    (may.steadily plain) in
+    comes_steadily side (present w) p asker (comes_now side k p asker fair_k may_k)
+
+pub in_order : (role : Role) (first : ℕ) (p : Packet) (log : Log) → let f = flow_got role p in IsFairLogByPeer role (GotPacket p ∷ log)
+    → side_of role f ≡ Asker → is_plain_rst p ≡ false → IsInOrder (side_of role f) (heard_of role first f log) p
+in_order role first p log fair asker plain =
+    let f = flow_got role p in
+    let is = present_is role f log in
+    let two = (one_got role log p).0 fair in
+    let c = subst (λ h. Comes (side_of role f) h p) is
+    (comes_to (is_host f) (side_of role f) (whole_of role f log) p asker plain (two.0 f)
+    (subst (λ h. AllowsTo (is_host f) (side_of role f) h (Got p)) (sym is) two.1)) in
+    heard_order role first f p log c.order (λ _. c.begun)
+
+formed_to : (host : Bool) (side : Side) (h : History) (p : Packet) → AllowsTo host side h (Got p) → IsFormed p
+formed_to true side h p may = now_formed (peer side) (gots h) (puts h) p may
+formed_to false side h p may = may.formed
+
+pub fits : (role : Role) (p : Packet) (log : Log) → IsFairLogByPeer role (GotPacket p ∷ log) → IsTaken p
+fits role p log fair =
+    let f = flow_got role p in
+    taken_of p (formed_to (is_host f) (side_of role f) (history_of role f log) p ((one_got role log p).0 fair).1)

@@ -253,7 +253,7 @@ request_side = grind (arith, common_steps)
 begun_some : (h : History) → is_begun Answerer (gots h) (puts h) ≡ true → is_empty h ≡ false
 begun_some = grind (arith, common_steps)
 
-awaiting_by : (h : History) → is_empty h ≡ false → has is_clean_rst (gots h) ≡ false → is_awaiting h ≡ true
+pub awaiting_by : (h : History) → is_empty h ≡ false → has is_clean_rst (gots h) ≡ false → is_awaiting h ≡ true
 awaiting_by h some quiet = rw (some, quiet) refl
 
 pub fair_order : (side : Side) (h : History) (p : Packet) → IsFair side h → AllowsNow side h (Got p) → IsInOrder side h p
@@ -272,13 +272,13 @@ fair_order side h p fair may = record {
         let m : MayPut Answerer (gots h) (puts h) p = subst (λ (s : Side). MayPut (peer s) (gots h) (puts h) p) asker (may.goes_on is) in
         awaiting_by h (begun_some h (m.begun is)) m.quiet
 
-some_by_puts : (h k : History) → puts k ≡ puts h → has is_request (puts h) ≡ true → is_empty k ≡ false
+pub some_by_puts : (h k : History) → puts k ≡ puts h → has is_request (puts h) ≡ true → is_empty k ≡ false
 some_by_puts = grind (arith, common_steps)
 
 not_both : (a b : Bool) → (a ≡ true → b ≡ true) → b ≡ false → a ≡ false
 not_both = grind (arith, common_steps)
 
-awaiting_quiet : (h : History) → is_awaiting h ≡ true → has is_clean_rst (gots h) ≡ false
+pub awaiting_quiet : (h : History) → is_awaiting h ≡ true → has is_clean_rst (gots h) ≡ false
 awaiting_quiet = grind (arith, common_steps)
 
 -- Order by what passed is order by what was heard.
@@ -295,7 +295,7 @@ heard_order role first f p log o begun = record {
       (awaiting_quiet (history_of role f log) (o.asked asker)));
 }
 
-asked_first : (side : Side) (h : History) (p : Packet) → AllowsNow side h (Got p) → side ≡ Asker → has is_request (puts h) ≡ true
+pub asked_first : (side : Side) (h : History) (p : Packet) → AllowsNow side h (Got p) → side ≡ Asker → has is_request (puts h) ≡ true
 asked_first = grind (arith, common_steps)
 
 pub got_in_order : (role : Role) (first : ℕ) (p : Packet) (log : Log) → let f = flow_got role p in IsFairOn role f (GotPacket p ∷ log)

@@ -1,11 +1,11 @@
 //! What an end of many connections puts keeps its log fair by the peer, where packets come that a switch passed on from another guest.
 
 ghost use Rattle.std.specs.Prelude.{◌≡◌, ◌<◌, ◌≤◌, ℕ, true, false, List, [], ◌∷◌, length, Some};
-ghost use Rattle.vs_conn.specs.{Follows.FitsMessage, declared.end.Owed.Owed, End.{CanSend, ConnectionEnd, owes_of}};
+ghost use Rattle.vs_conn.specs.{Follows.{FitsMessage, IsTaken}, declared.end.Owed.Owed, End.{CanSend, ConnectionEnd, owes_of}};
 ghost use Rattle.vs_flow.specs.{Flow.is_host, declared.flow.Flow.Flow};
 ghost use Rattle.vs_header.specs.declared.Kind.{Kind};
-ghost use Rattle.laws_history.specs.{History.{Asker, puts}, Packets.is_rst, declared.packet.Packet.Packet};
-ghost use Rattle.laws_tables.specs.{ByPeer.IsSoundByPeer, Ends.{Ends, is_among, is_new}, Heard.own_port, Matches.{IsOwed, IsReady, Matches}, Steps.{HasEnd, HasNone, owed_on}};
+ghost use Rattle.laws_history.specs.{Beside.is_plain_rst, History.{Asker, puts}, Packets.is_rst, declared.packet.Packet.Packet};
+ghost use Rattle.laws_tables.specs.{ByPeer.IsSoundByPeer, Ends.{Ends, is_among, is_new}, Heard.{IsInOrder, heard_of, own_port}, Matches.{IsOwed, IsReady, Matches}, Steps.{HasEnd, HasNone, owed_on}};
 ghost use Rattle.laws_tables.specs.Steps.{payload_on, reply_on, request_on};
 ghost use Rattle.vs_page.specs.{Fair.{IsFairLog, IsFairLogByPeer}, Log.{Log, Role, flow_got, history_of, side_of}, Open.is_dropped};
 ghost use Rattle.vs_page.specs.declared.log.LogEntry.TheVariants.{GotEvent, GotPacket, Mark, PutEvent, PutPacket};
@@ -39,6 +39,15 @@ pub fn law_of_fairness_by_peer()
     // Where the log is fair at all, it is so.
     ensures fair { (role : Role) (first : ℕ) (part : Ends) (log : Log) → Matches role first part log → IsFairLog role log
         → IsSoundByPeer role first log }
+{}
+
+/// A packet with which the log is fair by the peer has fields that fit; and it comes in order to the end that asks on its flow, unless it is an RST
+/// without the mark. So where that has a connection its end takes it, and else it is refused, and both leave the table matching (`law_of_taking`).
+pub fn law_of_order_by_peer()
+    ensures in_order { (role : Role) (first : ℕ) (p : Packet) (log : Log) → let f = flow_got role p in
+        IsFairLogByPeer role (GotPacket p ∷ log) → side_of role f ≡ Asker → is_plain_rst p ≡ false
+        → IsInOrder (side_of role f) (heard_of role first f log) p }
+    ensures fits { (role : Role) (p : Packet) (log : Log) → IsFairLogByPeer role (GotPacket p ∷ log) → IsTaken p }
 {}
 
 /// An RST that comes from another guest before any REQUEST on its flow, since that guest changed its CID, changes no connection: an end that asks
