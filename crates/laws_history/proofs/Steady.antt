@@ -10,18 +10,18 @@ has_step : (test : Packet → Bool) (p : Packet) (ps : List Packet) (b : Bool) �
 has_step test p ps true is never rest = rw is (rw (never refl) rest)
 has_step test p ps false is never rest = rw is (ap (λ b. test p || b) rest)
 
-has_steady : (test : Packet → Bool) → ((p : Packet) → is_plain_rst p ≡ true → test p ≡ false) → (ps : List Packet)
+pub has_steady : (test : Packet → Bool) → ((p : Packet) → is_plain_rst p ≡ true → test p ≡ false) → (ps : List Packet)
     → has test (steady ps) ≡ has test ps
 has_steady test never [] = refl
 has_steady test never (p ∷ ps) = has_step test p ps (is_plain_rst p) refl (never p) (has_steady test never ps)
 
-no_request : (p : Packet) → is_plain_rst p ≡ true → is_request p ≡ false
+pub no_request : (p : Packet) → is_plain_rst p ≡ true → is_request p ≡ false
 no_request = grind (arith, common_steps)
 
 no_response : (p : Packet) → is_plain_rst p ≡ true → is_response p ≡ false
 no_response = grind (arith, common_steps)
 
-no_mark : (p : Packet) → is_plain_rst p ≡ true → is_clean_rst p ≡ false
+pub no_mark : (p : Packet) → is_plain_rst p ≡ true → is_clean_rst p ≡ false
 no_mark = grind (arith, common_steps)
 
 no_receive : (p : Packet) → is_plain_rst p ≡ true → shuts_receive p ≡ false
@@ -57,7 +57,7 @@ forwarded_steady : (ps : List Packet) → told_forwarded (steady ps) ≡ told_fo
 forwarded_steady [] = refl
 forwarded_steady (p ∷ ps) = let rest = forwarded_steady ps in grind (arith, common_steps)
 
-alloc_steady : (ps : List Packet) → told_alloc (steady ps) ≡ told_alloc ps
+pub alloc_steady : (ps : List Packet) → told_alloc (steady ps) ≡ told_alloc ps
 alloc_steady [] = refl
 alloc_steady (p ∷ ps) = let rest = alloc_steady ps in grind (arith, common_steps)
 
@@ -69,7 +69,7 @@ none_asked : (ps : List Packet) → has is_request ps ≡ false → asked_kind p
 none_asked [] none = refl
 none_asked (p ∷ ps) none = grind (arith, common_steps, none)
 
-kind_stays : (p : Packet) (ps : List Packet) → is_request p ≡ false → asked_kind (p ∷ ps) ≡ asked_kind ps
+pub kind_stays : (p : Packet) (ps : List Packet) → is_request p ≡ false → asked_kind (p ∷ ps) ≡ asked_kind ps
 kind_stays p ps other = by (has is_request ps) refl
   where
     by : (b : Bool) → has is_request ps ≡ b → asked_kind (p ∷ ps) ≡ asked_kind ps
@@ -84,7 +84,7 @@ kind_by p ps false is rest =
     rw is (ap (λ b. if b then asked_kind (steady ps) else if is_request p then p.header.kind else 0) same
     ∙ ap (λ n. if has is_request ps then n else if is_request p then p.header.kind else 0) rest)
 
-kind_steady : (ps : List Packet) → asked_kind (steady ps) ≡ asked_kind ps
+pub kind_steady : (ps : List Packet) → asked_kind (steady ps) ≡ asked_kind ps
 kind_steady [] = refl
 kind_steady (p ∷ ps) = kind_by p ps (is_plain_rst p) refl (kind_steady ps)
 
