@@ -4,5 +4,6 @@ pub mod Turning
 pub mod Ordered
 pub mod Growing
 pub mod Emptying
+pub mod Telling
 pub mod Named
 pub mod Account

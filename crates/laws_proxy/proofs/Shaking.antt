@@ -119,7 +119,7 @@ module _ (carry : Carried) (first : ℕ) where
           above_then port above,
           (
             holds.0,
-            tells_weaker (IsToldBy carry LineOn first port s) (IsToldBy carry (StreamedOver carry rest first (next_after port) s) first (next_after port) s)
+            tells_weaker carry.fairly (IsToldBy carry LineOn first port s) (IsToldBy carry (StreamedOver carry rest first (next_after port) s) first (next_after port) s)
                 (λ hon o l was. (
                   was.0,
                   λ honest. let none = (taken guest flow decided given l (was.1 honest).0).none in

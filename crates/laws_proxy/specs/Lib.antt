@@ -1,4 +1,5 @@
 pub mod Honest
 pub mod Order
 pub mod Resets
+pub mod Told
 pub mod Account

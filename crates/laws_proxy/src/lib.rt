@@ -5,3 +5,4 @@
 pub mod laws;
 pub mod payload;
 pub mod streams;
+pub mod told;

@@ -6,7 +6,7 @@ ghost use Rattle.vs_flow.specs.{Table.{entry_of, entry_under}, declared.flow.Flo
 ghost use Rattle.laws_history.specs.declared.packet.Packet.{Packet};
 ghost use Rattle.vs_page.specs.{Held.IsWhole, Log.flow_to_guest, Open.is_dropped};
 ghost use Rattle.vs_limits.specs.declared.TheConstants.{DRIVER_REPLIES, DRIVER_REPLIES_FULL};
-ghost use Rattle.vs_driver_parts.specs.{State.DriverEntry, Connections.{after_leaving, leaves_list, with_request, keeping}, Playing.{BringsFit, FitsPorts, SamePages}};
+ghost use Rattle.vs_driver_parts.specs.{State.DriverEntry, Connections.{after_leaving, leaves_list, with_request, keeping}, Playing.{BringsFit, SamePages}};
 ghost use Rattle.vs_driver_parts.specs.Receiving.{ends_connection, on_page, on_packet, on_heard, on_known, on_unknown, is_request, may_open, with_reply, after_reset};
 ghost use Rattle.vs_wrap.specs.Wrap.{counted};
 ghost use Rattle.vs_page.specs.Log as log;
@@ -27,6 +27,7 @@ impl Driver {
         ensures pages { SamePages self.old self.new }
         ensures fits { BringsFit page.now }
     {
+        fields_fit(page.bytes());
         let Some(header) = packet_in(page) else {
             return;
         };
@@ -42,7 +43,6 @@ impl Driver {
         requires whole { let p : Packet = record { header = header.now; payload = payload.now } in IsWhole p }
         ensures state { let p : Packet = record { header = header.now; payload = payload.now } in self.new ≡ on_packet p self.old }
         ensures pages { SamePages self.old self.new }
-        ensures fits { FitsPorts header.now }
     {
         let flow = flow_to_guest(header);
         if is_dropped(self.cid, header) {
@@ -183,20 +183,20 @@ impl Driver {
     }
 }
 
+// The numbers of the packet that a page brings have their widths, since a byte has 8 bits.
+fn fields_fit(bytes: &[u8])
+    ensures { BringsFit bytes.now }
+{}
+
 // The flow of a packet to the guest.
 fn flow_to_guest(header: &Header) -> Flow
-    ensures flow { result ≡ flow_to_guest header.now }
-    ensures fits { FitsPorts header.now }
+    ensures { result ≡ flow_to_guest header.now }
 {
-    flow_between(header.dst_port, header.src_port, header.src_cid)
-}
-
-// The flow between a port of the guest and a port of a peer.
-fn flow_between(guest: u32, host: u32, peer: u64) -> Flow
-    ensures flow { result ≡ record { guest = guest; host = host; peer = peer } }
-    ensures fits { (guest < 2 ^ 32) × (host < 2 ^ 32) × (peer < 2 ^ 64) }
-{
-    Flow { guest, host, peer }
+    Flow {
+        guest: header.dst_port,
+        host: header.src_port,
+        peer: header.src_cid,
+    }
 }
 
 // Whether a packet is dropped, where this is the guest's CID: it is another guest's, and for another CID.

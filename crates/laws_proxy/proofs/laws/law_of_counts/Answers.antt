@@ -9,8 +9,8 @@ use Rattle.laws_proxy.proofs.laws.law_of_counts.Goals as goal
 ends : {A : Type 0} (first : ℕ) (state_of : A → DeviceState) (s : DeviceState) (tree : DeviceTree A) (a b : Situation) (x : A)
     → IsCountedWith first s a.ring → (P first None (fields s) a → Keeps moving (λ y d. P first None (fields (state_of y)) d) tree a) → Runs tree a x b
     → IsCountedWith first (state_of x) b.ring
-ends first state_of s tree a b x was keeps runs = λ on l is.
-    moving_end (λ y d. P first None (fields (state_of y)) d) tree a b x (keeps (λ m there honest. was honest m there)) runs l is on
+ends first state_of s tree a b x was keeps runs on l is =
+    (moving_end (λ y d. P first None (fields (state_of y)) d) tree a b x (keeps (record { sure = tt; told = λ m there honest. was honest m there })) runs).told l is on
 
 pub returns-clause-new : goal.returns-clause-new
 returns-clause-new c = λ cid base port r fresh on l is.
