@@ -18,6 +18,9 @@ use vs_outside::{Accepted, Dialed, HostNet, Started, StreamRead, StreamWrite};
 /// told of the last one, and none where that poll showed that nothing can be there. While bytes move an accept polls once in 16 calls, so that
 /// a busy device makes a poll in 16 turns. Each error is a fault, and is counted; of accepts that fail in a row, one.
 ///
+/// A stream is read ahead, by up to 32,416 bytes, for which it takes room when it is accepted or dialed. They are given by the next reads, and
+/// are lost with the stream.
+///
 /// The socket of the base path is removed with the host that made it, or by `stop`.
 pub struct UnixHost<R: Net + Files + AllocGlobal + Drop> {
     rt: R,

@@ -4,6 +4,7 @@
 #![tactic(auto)]
 
 mod again;
+mod ahead;
 mod clock;
 mod gate;
 mod host;

@@ -3,16 +3,17 @@ ghost use Rattle.std.specs.Prelude.{length};
 ghost use Rattle.vs_outside.specs.Host.{ReadsSome, TakesSome};
 
 use crate::again;
+use crate::ahead::AheadStream;
 use crate::readiness::{Ask, Readiness};
 use crate::starting::StartError;
 use indexmap::IndexMap;
 use mio::event::Event;
 use mio::net::{UnixListener, UnixStream};
 use mio::{Events, Interest, Poll, Token};
-use std::alloc::AllocGlobal;
+use std::alloc::{AllocGlobal, Global};
 use std::fs::Files;
 use std::io::{self, ErrorKind};
-use std::net::{Net, Shutdown};
+use std::net::Net;
 use std::os::fd::{AsRawFd, RawFd};
 use std::time::Duration;
 use vs_outside::{Accepted, Dialed, StreamRead, StreamWrite};
@@ -33,7 +34,7 @@ const LISTENER: Token = Token(0);
 /// A connected socket, and what the polls showed of it.
 #[derive(Drop)]
 struct Socket {
-    stream: UnixStream,
+    stream: AheadStream,
     input: Readiness,
     output: Readiness,
 }
@@ -41,6 +42,7 @@ struct Socket {
 /// Sockets of one poll: at most one that listens, and the streams by their ids, none of which is given twice.
 #[derive(Drop)]
 pub struct Sockets {
+    alloc: Global,
     poll: Poll,
     events: Events,
     // the number of the last poll
@@ -63,6 +65,7 @@ impl Sockets {
         let events = Events::with_capacity(rt.alloc(), EVENTS)?;
         let streams = IndexMap::with_capacity(rt.alloc(), STREAMS)?;
         Ok(Sockets {
+            alloc: rt.alloc(),
             poll,
             events,
             polls: 0,
@@ -188,7 +191,7 @@ impl Sockets {
     // Keeps a new stream, under the next id. None: there is no memory, no id, or no place in the poll.
     fn add(&mut self, stream: UnixStream) -> Option<u64> {
         let id = self.last_id.checked_add(1)?;
-        let socket = registered(&self.poll, stream, id)?;
+        let socket = registered(self.alloc, &self.poll, stream, id)?;
         self.streams.insert(id, socket).ok()?;
         self.last_id = id;
         Some(id)
@@ -259,7 +262,7 @@ impl Sockets {
     /// Shuts the side of a stream that is written to. One that the other end closed has none.
     pub fn shut_write(&mut self, id: u64) {
         if let Some(socket) = self.streams.get(&id) {
-            let _ = socket.stream.shutdown(Shutdown::Write);
+            socket.stream.shut_write();
         }
     }
 
@@ -280,13 +283,13 @@ impl Sockets {
 }
 
 // Puts a stream into the poll, under the token of its id. None: there is no such token, or no place in the poll.
-fn registered(poll: &Poll, mut stream: UnixStream, id: u64) -> Option<Socket> {
+fn registered(alloc: Global, poll: &Poll, mut stream: UnixStream, id: u64) -> Option<Socket> {
     let token = Token(usize::try_from(id).ok()?);
     poll.registry()
         .register(&mut stream, token, Interest::READABLE | Interest::WRITABLE)
         .ok()?;
     Some(Socket {
-        stream,
+        stream: AheadStream::new(alloc, stream),
         input: Readiness::new(),
         output: Readiness::new(),
     })
@@ -318,14 +321,14 @@ fn is_nobody(kind: ErrorKind) -> bool {
     matches!(kind, ErrorKind::NotFound | ErrorKind::ConnectionRefused)
 }
 
-// Reads a socket once.
+// Reads a socket once, or gives what was read ahead.
 fn read_once(socket: &mut Socket, out: &mut [u8], polls: u64) -> StreamRead
     ensures { ReadsSome result (length out.new) }
 {
     if out.is_empty() {
         return StreamRead::Again;
     }
-    match again::read(&mut socket.stream, out) {
+    match socket.stream.read(out) {
         Ok(0) => StreamRead::End,
         Ok(n) => StreamRead::Got(n),
         Err(e) => match e.kind() {
@@ -343,7 +346,7 @@ fn read_once(socket: &mut Socket, out: &mut [u8], polls: u64) -> StreamRead
 fn write_once(socket: &mut Socket, bytes: &[u8], polls: u64) -> StreamWrite
     ensures { TakesSome result (length bytes.now) }
 {
-    match again::write(&mut socket.stream, bytes) {
+    match socket.stream.write(bytes) {
         Ok(0) => StreamWrite::Again,
         Ok(n) => StreamWrite::Took(n),
         Err(e) => match e.kind() {
