@@ -1,14 +1,18 @@
 //! Laws of the device over any ring that tells its log, honest or not.
 
-ghost use Rattle.std.specs.{Prelude.{◌≡◌, ◌<◌, ◌^◌, ℕ, Bool, List, None, Result}};
+ghost use Rattle.std.specs.{Prelude.{◌≡◌, ◌<◌, ◌^◌, ℕ, Bool, true, false, List, Some, None, Result}};
+ghost use Rattle.vs_contents.specs.CallTree.{Done};
+ghost use Rattle.vs_header.specs.{Packet.header_bytes, declared.TheConstants.HEADER_LEN};
+ghost use Rattle.vs_limits.specs.declared.TheConstants.{GUEST_CID_MIN};
 ghost use Rattle.vs_flow.specs.declared.{flow.Flow.Flow, table.TableFault.TableFault};
 ghost use Rattle.laws_tables.specs.{Heard.{AsksOnceLog, IsOrderedLog}, Steps.IsNextFlow};
-ghost use Rattle.vs_page.specs.Log.{Device};
-ghost use Rattle.vs_ring_port.specs.{Contents.RingContents, EndLog.EndLog, declared.failure.Failure.Failure};
+ghost use Rattle.vs_page.specs.{Held.packet_held, Log.Device, Open.is_open};
+ghost use Rattle.vs_ring_port.specs.{Contents.RingContents, EndLog.EndLog, declared.{device_ring.Chain.Chain, failure.Failure.{Failure, TheVariants.PayloadShort}}};
 ghost use Rattle.vs_device_parts.specs.{Calls.Situation, Playing.Runs, Receiving.{fill_rx_of, pay_event_of}, State.{DeviceState, new_device}};
-ghost use Rattle.vs_device_parts.specs.{Streams.{Writing, pump_of, tick_of}, Transmitting.take_tx_of, Turns.{open_of, reset_of, table_shown}};
+ghost use Rattle.vs_device_parts.specs.{Streams.{Writing, pump_of, tick_of}, Transmitting.{failing, on_header, take_tx_of}, Turns.{open_of, reset_of, table_shown}};
 ghost use Rattle.vs_device_parts.specs.{Growing.after_grow, declared.answers.{Filled.Filled, Taken.Taken}};
-ghost use Rattle.laws_device.specs.{Honest.{IsFitFlow, IsFresh, IsLeftOpen, ends_of_state, port_after}, Told.{IsTold, IsToldWith}};
+ghost use Rattle.laws_device.specs.{Honest.{IsFitFlow, IsFresh, IsLeftOpen, ends_of_state, port_after}, Told.{IsTold, IsToldWith}, Worked.{dialed_flow, short_log, short_request}};
+ghost use Rattle.vs_device_parts.specs.declared.answers.Taken.TheVariants as taken;
 
 /// Whole calls over any ring that tells its log and any host, whatever the guest puts there: after each the device's table has exactly the flows
 /// that the log left open, less those to which an RST is owed as a reply, and those of clients whose REQUEST isn't put, where packets come in order
@@ -41,4 +45,14 @@ pub fn law_of_other_told()
         → IsToldWith first (port_after flow port x.1) x.0 b.ring }
     ensures grow { (first port slot alloc : ℕ) (s : DeviceState) (c : RingContents) → IsToldWith first port s c
         → IsToldWith first port (after_grow slot alloc s) c }
+{}
+
+/// Why nothing is said of a device whose ring failed: the page of a REQUEST that tells a byte of payload holds the packet, and its log is in order
+/// and leaves its flow open; but the page is shorter than its header tells, so the device takes none of it.
+pub fn worked_short_page()
+    ensures held { packet_held (header_bytes short_request.header) ≡ Some short_request }
+    ensures ordered { IsOrderedLog Device short_log }
+    ensures open { is_open Device GUEST_CID_MIN dialed_flow short_log false ≡ true }
+    ensures fails { (chain : Chain) (s : DeviceState) → let c : Chain = record chain { readable = HEADER_LEN } in
+        let f = PayloadShort 1 0 in on_header c short_request.header s ≡ Done (failing f s, taken.Failed f) }
 {}

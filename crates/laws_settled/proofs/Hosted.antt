@@ -18,6 +18,8 @@ hosts = record {
   step = λ step w may asked fits was. step_hosts w was step may asked;
   plain = λ first log. ⊥;
   before = λ first entry log no. no;
+  fairly = true;
+  sure = λ first log no. absurd no;
   idle = λ first p w was m fair no. absurd no;
 }
 
@@ -26,13 +28,16 @@ begins first s c holds own = (
   holds.0,
   (
     holds.1.0,
-    λ l is. let was = holds.1.1 l is in (
-      λ still. subst (λ (held : List Held). Among hosts.others s.device.chain held) (sym (was.0 still)) (alone_so s.device.chain),
-      λ honest. let p = was.1 honest in (
-        record { fits = p.fits; none_overrun = p.none_overrun; matches = p.matches; fair = p.fair; seated = own honest l is },
-        λ no. absurd no,
-      ),
-    ),
+    record {
+      sure = tt;
+      told = λ l is. let was = holds.1.1 l is in (
+        λ still. subst (λ (held : List Held). Among hosts.others s.device.chain held) (sym (was.0 still)) (alone_so s.device.chain),
+        λ honest. let p = was.1 honest in (
+          record { fits = p.fits; none_overrun = p.none_overrun; matches = p.matches; fair = p.fair; seated = own honest l is },
+          λ no. absurd no,
+        ),
+      );
+    },
   ),
 )
 
@@ -41,4 +46,4 @@ pub turn_hosts : (first size now : ℕ) (s : ProxyState) (a b : Situation) (x : 
 turn_hosts first size now s a b x holds own runs honest l is =
     let kept : Proxied hosts first x.0 b =
     keeps_end _ (turn_of size now s) a b x (turn_keeps hosts first size now s a (begins first s a holds own)) runs in
-    ((kept.1.1 l is).1 honest).0.seated
+    ((kept.1.1.told l is).1 honest).0.seated

@@ -1,5 +1,5 @@
 -- What the device's conversations come to: steps of the two ends, where the device got just what the driver put first, and headers that fit.
-use Rattle.std.proofs.Common.{false, ℕ, subst}
+use Rattle.std.proofs.Common.{true, false, ℕ, refl, subst}
 use Rattle.vs_page.specs.{Log.{Device, HasGotAll, flow_got}, declared.log.LogEntry.TheVariants.GotPacket}
 use Rattle.laws_tables.{specs.Both.{Both, IsSound, Seat}, proofs.{Fair.got_formed, Voices.{AreVoiced, voices_run}}}
 use Rattle.laws_device.proofs.{Seats.{Carried, PutsFit}, Carried.Cids.dropped_empty}
@@ -30,6 +30,8 @@ module _ (fresh : Type 0) (b : Both) (sound : IsSound first_cid b) (cids : AreVo
     );
     plain = λ first log. HasGotAll log b.driver.log;
     before = λ first entry log got. log_before b.driver.log entry log got;
+    fairly = true;
+    sure = λ first log got. refl;
     idle = λ first p w was m fair got dropped e has given.
         let runs = was.1 (log_before b.driver.log (GotPacket p) w.log got) in
         dropped_empty first_cid (beside w) (keeps_sound first_cid b (beside w) runs sound) (cids_kept first_cid b (beside w) runs sound cids) p got.packets

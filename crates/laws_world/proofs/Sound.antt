@@ -268,30 +268,36 @@ module _ (fresh : Type 0) (w : World) (well : IsWell fresh w) where
     well.device.port,
     (
       well.chain.0,
-      λ l is. subst (IsToldBy carry (StreamedOver carry w.proxy.handshakes first_cid w.proxy.next_port w.proxy.device)
-          first_cid w.proxy.next_port w.proxy.device true (Some w.host))
-          (one_told is) (
-            well.chain.1,
-            λ honest. (
-              record {
-                fits = well.device.fits;
-                none_overrun = well.overrun;
-                matches = well.sound.matches Device;
-                fair = well.sound.fair Device;
-                seated = (well.device_puts, λ got. stays _ _ refl);
-              },
-              λ ok plain h there. subst (λ (c : HostContents). IsStreamed c w.rings.device.entries (ports_in w)
-                  w.proxy.device.table w.proxy.handshakes)
-                  (one_told there) (well.streams ok),
-            ),
-          ),
+      record {
+        sure = tt;
+        told = λ l is. subst (IsToldBy carry (StreamedOver carry w.proxy.handshakes first_cid w.proxy.next_port w.proxy.device)
+            first_cid w.proxy.next_port w.proxy.device true (Some w.host))
+            (one_told is) (
+              well.chain.1,
+              λ honest. (
+                record {
+                  fits = well.device.fits;
+                  none_overrun = well.overrun;
+                  matches = well.sound.matches Device;
+                  fair = well.sound.fair Device;
+                  seated = (well.device_puts, λ got. stays _ _ refl);
+                },
+                λ ok plain h there. subst (λ (c : HostContents). IsStreamed c w.rings.device.entries (ports_in w)
+                    w.proxy.device.table w.proxy.handshakes)
+                    (one_told there) (well.streams ok),
+              ),
+            );
+      },
     ),
   )
 
   -- What it counted so far.
   pub counted_now : (n : ℕ) → P first_cid None (fields w.proxy.device) (around_it n)
-  counted_now n = λ l is on. subst (λ (k : EndLog). IsCounted first_cid w.proxy.device.cid w.proxy.device.dropped w.proxy.device.failed k.entries)
-      (one_told is) well.counted
+  counted_now n = record {
+    sure = tt;
+    told = λ l is on. subst (λ (k : EndLog). IsCounted first_cid w.proxy.device.cid w.proxy.device.dropped w.proxy.device.failed k.entries)
+        (one_told is) well.counted;
+  }
 
   device_goes : {A : Type 0} (tree : DeviceTree A) (state_of : A → ProxyState) → DeviceKeeps (λ x d. Proxied carry first_cid (state_of x) d) tree (around_it 0)
       → moved.Keeps moving (λ x d. P first_cid None (fields (state_of x).device) d) tree (around_it 0)
@@ -306,7 +312,7 @@ module _ (fresh : Type 0) (w : World) (well : IsWell fresh w) where
         heads = well.heads;
       }) (keeps_both (λ x d. P first_cid None (fields (state_of x).device) d) (λ x d. Proxied carry first_cid (state_of x) d) tree (around_it 0) keeps counting) in
       let kept_so = ends.1.0 in
-      let told = kept_so.1.1 r.1.log refl in
+      let told = kept_so.1.1.told r.1.log refl in
       let now = told.1 refl in
       let got = device_got _ _ _
       (tied-publish q.Tx w.rings.driver.staged.tx r.1.lists w.rings.driver.entries r.1.log.entries ends.2.tied (well.sound.fair Driver)) in
@@ -329,7 +335,7 @@ module _ (fresh : Type 0) (w : World) (well : IsWell fresh w) where
           right = well.right;
           waiting = well.waiting;
           overrun = now.0.none_overrun;
-          counted = ends.1.1 r.1.log refl refl;
+          counted = ends.1.1.told r.1.log refl refl;
           cids = cids_kept first_cid _ _ runs well.sound well.cids;
           streams = λ ok. now.1 ok got r.1.host refl;
         };
