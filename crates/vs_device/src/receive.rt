@@ -240,6 +240,7 @@ impl Device {
     }
 
     // Serves the connection in a slot, which may owe a packet or want credit.
+    #[inline(never)]
     fn serve_owing<R: DeviceRing, H: HostNet>(
         &mut self,
         ring: &mut R,
@@ -372,7 +373,8 @@ impl Device {
         true
     }
 
-    // The read of the stream of the connection in a slot was answered.
+    // The read of the stream of the connection in a slot was answered. Apart, so that the round keeps what it looks at in registers.
+    #[inline(never)]
     fn read_answered<R: DeviceRing, H: HostNet>(
         &mut self,
         ring: &mut R,
@@ -483,6 +485,7 @@ impl Device {
     }
 
     // Puts what the connection in a slot owes, while chains are there.
+    #[inline(never)]
     fn put_all_owed<R: DeviceRing, H: HostNet>(
         &mut self,
         ring: &mut R,
@@ -591,7 +594,7 @@ impl Device {
     }
 
     // Holds the next chain of the receive queue, where none is held. Apart, so that a chain that is held already costs one test.
-    #[inline(always)]
+    #[inline(never)]
     fn hold_next<R: DeviceRing>(&mut self, ring: &mut R, fill: &mut Fill)
         requires ring { IsAmong (R.held ring.old) self.old }
         requires none { self.old.chain ≡ None }

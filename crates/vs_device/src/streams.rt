@@ -121,8 +121,10 @@ impl Device {
         let slots = self.slots.all();
         let mut buffer = [0; WRITE_MAX];
         let mut wrote = 0;
+        let mut place: usize = 0;
         for slot in slots.as_slice() {
-            self.pump_slot(host, *slot, &mut buffer, &mut wrote);
+            self.pump_slot(host, *slot, place, &mut buffer, &mut wrote);
+            place = place.wrapping_add(1);
         }
         self.watch_after_writing(wrote);
         wrote
@@ -145,17 +147,20 @@ impl Device {
     }
 
     // Whether there is something to write on the connection in a slot, or its write side is to be shut.
-    fn has_to_write(&self, slot: Slot) -> bool
+    #[inline(always)]
+    fn has_to_write(&self, slot: Slot, place: usize) -> bool
         ensures { result ≡ option_map_or (λ e. has_to_write e.value) (entry_under self.now.table slot) false }
     {
-        self.slots.has_to_write(slot)
+        self.slots.has_to_write(slot, place)
     }
 
-    // Writes what is pending on the connection in a slot, whose stream isn't closed.
+    // Writes what is pending on the connection in a slot, whose stream isn't closed. It stands at this place of the table, if none went before.
+    #[inline(always)]
     fn pump_slot<H: HostNet>(
         &mut self,
         host: &mut H,
         slot: Slot,
+        place: usize,
         buffer: &mut [u8; WRITE_MAX],
         wrote: &mut u32,
     )
@@ -165,7 +170,7 @@ impl Device {
         ensures chain { self.new.chain ≡ self.old.chain }
         ensures count { wrote.new ≤ wrote.old + WRITE_MAX }
     {
-        if self.has_to_write(slot) {
+        if self.has_to_write(slot, place) {
             self.write_pending(host, slot, buffer, wrote);
             self.shut_write(host, slot);
         }

@@ -1,6 +1,7 @@
 pub mod Under
 mod Copying
 mod SlotChanges
+mod Noting
 pub mod Each
 mod Rounds
 mod Writes

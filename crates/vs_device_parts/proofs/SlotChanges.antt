@@ -5,8 +5,8 @@ use Rattle.std.{proofs.lemmas.{List.Elements.{All-filter, All-map, All-push, All
 use Rattle.std.specs.List.{AllPairs, AllWithin, filter, remove, slice_get}
 use Rattle.vs_flow.specs.Table.{Table, IsTable, entry_of, entry_under, value_under, has_place, next_entry, slots, with_entry, with_value, without, revalued}
 use Rattle.vs_flow.{specs.declared.flow.Flow.Flow, proofs.{Entries.{all_others, found_at, remove_at}, Lookups.find_place, Tables.{IsAccepted, revalued-slot, with_value_sound}}}
-use Rattle.vs_device_parts.specs.{State.{DeviceConnection, DeviceEntry}, SlotFields.AreKept, declared.{slots.Slots.TheInside.Inside, watch.Watch.Watch, service.Service.Service}}
-use Rattle.vs_device_parts.{specs.{Connections.is_timed_out, Watched.{AreWatched, IsWatched, has_to_write}, Served.IsServedSo}, proofs.Under.{none_under, under, value_of}}
+use Rattle.vs_device_parts.specs.{State.{DeviceConnection, DeviceEntry}, SlotFields.AreKept, declared.{slots.Slots.TheInside.Inside, notes.Note.Note, watch.Watch.Watch, service.Service.Service}}
+use Rattle.vs_device_parts.{specs.{Connections.is_timed_out, Noted.{note_of, renoted}, Watched.{AreWatched, IsWatched, has_to_write}, Served.IsServedSo}, proofs.Under.{none_under, under, value_of}}
 
 -- what is known after one more thing was noted
 module _ (w new : Watch) (still : (c : DeviceConnection) → IsWatched w c → IsWatched new c) (t : Table DeviceConnection) (all : AreWatched w t) where
@@ -86,9 +86,21 @@ same_slots : (slot : ℕ) (d : DeviceConnection) (es : List DeviceEntry) → map
 same_slots slot d [] = refl
 same_slots slot d (e ∷ es) = rw (revalued-slot slot d e) (ap (λ (xs : List ℕ). e.slot ∷ xs) (same_slots slot d es))
 
-pub kept_with_value : (s : Inside) (slot : ℕ) (d : DeviceConnection) (new : Watch) → AreKept s → IsWatched new d
-    → ((c : DeviceConnection) → IsWatched s.watch c → IsWatched new c) → AreKept (record s { table = with_value s.table slot d; watch = new })
-kept_with_value s slot d new kept noted still = record {
+-- each note is of the connection as it now is
+noted_as : (slot : ℕ) (d : DeviceConnection) (e : DeviceEntry) (b : Bool) → (e.slot == slot) ≡ b
+    → cond b (note_of slot d) (note_of e.slot e.value) ≡ (let x : DeviceEntry = cond b (record e { value = d }) e in note_of x.slot x.value)
+noted_as slot d e true is = let same : e.slot ≡ slot = grind (arith, nat_tests, is) in ap (λ (n : ℕ). note_of n d) (sym same)
+noted_as slot d e false is = refl
+
+noted_all : (slot : ℕ) (d : DeviceConnection) (es : List DeviceEntry)
+    → map (renoted (note_of slot d)) (map (λ e. note_of e.slot e.value) es) ≡ map (λ e. note_of e.slot e.value) (map (revalued slot d) es)
+noted_all slot d [] = refl
+noted_all slot d (e ∷ es) = λ i. noted_as slot d e (e.slot == slot) refl i ∷ noted_all slot d es i
+
+pub kept_with_value : (s : Inside) (slot : ℕ) (d : DeviceConnection) (new : Watch) (notes : List Note) → AreKept s → IsWatched new d
+    → ((c : DeviceConnection) → IsWatched s.watch c → IsWatched new c) → notes ≡ map (renoted (note_of slot d)) s.notes
+    → AreKept (record s { table = with_value s.table slot d; watch = new; notes = notes })
+kept_with_value s slot d new notes kept noted still put = record {
   table = with_value_sound s.table slot d kept.table;
   room = kept.room;
   buffers = omega (arith, kept.buffers, length-map s.table.entries (revalued slot d));
@@ -96,6 +108,7 @@ kept_with_value s slot d new kept noted still = record {
   spare = kept.spare;
   order = kept.order ∙ sym (same_slots slot d s.table.entries);
   watched = watched_with_value s.watch new still s.table kept.watched slot d noted;
+  notes = put ∙ ap (map (renoted (note_of slot d))) kept.notes ∙ noted_all slot d s.table.entries;
 }
 
 pub accepts : (t : Table DeviceConnection) (flow : Flow) → has_place t ≡ true → entry_of t flow ≡ None → IsAccepted t flow

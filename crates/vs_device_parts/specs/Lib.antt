@@ -11,6 +11,7 @@ pub mod Paid
 pub mod SlotFields
 pub mod Watched
 pub mod Served
+pub mod Noted
 pub mod Playing
 pub mod Filling
 pub mod Written

@@ -2,7 +2,7 @@
 use Rattle.std.specs.{Prelude.◌≡◌, Prelude.◌+◌, Prelude.◌≤◌, Prelude.length, Prelude.vec_capacity, List.All}
 use Rattle.vs_flow.specs.Table.{IsTable, slots}
 use Rattle.vs_limits.specs.declared.TheConstants.{DEVICE_CONNECTIONS}
-use Rattle.vs_device_parts.specs.{declared.slots.Slots.TheInside.Inside, Room.IsSpare, Watched.AreWatched}
+use Rattle.vs_device_parts.specs.{declared.slots.Slots.TheInside.Inside, Noted.notes_of, Room.IsSpare, Watched.AreWatched}
 
 -- There are buffers for all connections, and what is known of them holds, their slots too.
 pub record AreKept (s : Inside) : Type 0 where
@@ -13,3 +13,4 @@ pub record AreKept (s : Inside) : Type 0 where
   pub spare : All IsSpare s.spare.items
   pub order : s.order.items ≡ slots s.table
   pub watched : AreWatched s.watch s.table
+  pub notes : s.notes ≡ notes_of s.table

@@ -10,7 +10,7 @@ ghost use Rattle.vs_limits.specs.declared.TheConstants.{BUF_ALLOC, BUF_ALLOC_MAX
 ghost use Rattle.vs_uds.specs.OkLine.{ok_text};
 ghost use Rattle.vs_device_parts.specs.{Connections.{after_shut, after_written, cut_off, is_late, is_timed_out, new_connection, stream_closed}, Paid.paid_connection};
 ghost use Rattle.vs_device_parts.specs.{Receiving.may_read, Room.IsSpare, Streams.{to_write, is_written_out}, Transmitting.{heard, without_payload}, Watched.has_to_write};
-ghost use Rattle.vs_device_parts.specs.{Growing.grow_answer, Served.IsServedSo, declared.answers.Grown.TheVariants.Done};
+ghost use Rattle.vs_device_parts.specs.{Growing.grow_answer, Noted.service_of, declared.answers.Grown.TheVariants.Done};
 
 use crate::answers::Grown;
 use crate::service::Service;
@@ -358,12 +358,13 @@ impl Connection {
         self.end.owed_header(route, what)
     }
 
-    /// What the round over all connections does on it, where it owes no packet.
-    #[inline(always)]
+    /// What the round over all connections does on it.
     pub fn service(&self) -> Service
-        requires none { owes_of self.now.end ≡ None }
-        ensures { IsServedSo (Some self.now) result }
+        ensures { result ≡ service_of self.now }
     {
+        if self.owes().is_some() {
+            return Service::Owed;
+        }
         if !self.may_read() {
             return Service::Nothing;
         }

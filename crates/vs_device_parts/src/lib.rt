@@ -6,6 +6,7 @@ pub mod answers;
 pub mod connection;
 pub mod fill;
 pub mod host_calls;
+pub mod notes;
 pub mod packets;
 pub mod ring_calls;
 pub mod round;

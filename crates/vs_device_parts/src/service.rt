@@ -1,8 +1,9 @@
 //! What the round over all connections does on one of them, as far as one look at it tells.
 
 /// What the round over all connections does on one of them, as far as one look at it tells.
-#[derive(Clone, Copy)]
+#[derive(Clone, Copy, Default)]
 pub enum Service {
+    #[default]
     /// Nothing: it neither reads its stream nor owes a packet.
     Nothing,
     /// Its stream is read, with so much credit. It owes no packet.

@@ -1,6 +1,6 @@
 //! The device's slots: the connections of the table, and the buffers of free slots.
 
-ghost use Rattle.std.specs.Prelude.{◌≡◌, ◌<◌, ◌≤◌, ◌++◌, ◌+◌, ◌&&◌, [], true, false, length, Some, None, if◌then◌else◌, IfOk, IfSome, IfNone, IsSomeAnd, AllPairs, option_copied};
+ghost use Rattle.std.specs.Prelude.{◌≡◌, ◌<◌, ◌≤◌, ◌++◌, ◌+◌, ◌&&◌, [], true, false, length, Some, None, if◌then◌else◌, IfOk, IfSome, IfNone, IsSomeAnd, AllPairs, map, option_copied};
 ghost use Rattle.std.specs.{Prelude.{slice_get, vec_capacity}, List.All, Option.{option_map, option_map_or}};
 ghost use Rattle.vs_conn.specs.{End.{CanSend, asked, answering, grown, may_shut, owes_of, verdict_of, wanting_credit, with_payload_sent}, Headers.{owed_header, payload_header}};
 ghost use Rattle.vs_conn.specs.{Shut.is_both, declared.end.{State.TheVariants.Live, Verdict.TheVariants.{Deliver, Accept}}};
@@ -12,9 +12,10 @@ ghost use Rattle.vs_limits.specs.declared.TheConstants.{BUF_ALLOC, BUF_ALLOC_MAX
 ghost use Rattle.vs_uds.specs.OkLine.{ok_text};
 ghost use Rattle.vs_device_parts.specs.{Connections.{after_shut, after_written, cut_off, is_timed_out, new_connection, route_to_guest, stream_closed}, Paid.paid_connection};
 ghost use Rattle.vs_device_parts.specs.{Room.IsSpare, State.{DeviceConnection, DeviceEntry}, Transmitting.{heard, without_payload}, Growing.grow_answer, Served.IsServedSo};
-ghost use Rattle.vs_device_parts.specs.{Watched.has_to_write, declared.answers.Grown.TheVariants.Done};
+ghost use Rattle.vs_device_parts.specs.{Noted.{note_of, renoted}, Watched.{IsWatched, has_to_write}, declared.answers.Grown.TheVariants.Done};
 
 use crate::connection::{Buffers, Connection};
+use crate::notes::{Note, Notes};
 use crate::service::Service;
 use crate::watch::Watch;
 use arrayvec::ArrayVec;
@@ -40,6 +41,8 @@ pub struct Slots {
     order: ArrayVec<Slot, DEVICE_CONNECTIONS>,
     // What is known of all connections.
     watch: Watch,
+    // What the rounds do on each connection.
+    notes: Notes,
 }
 
 impl Model for Slots {
@@ -65,6 +68,7 @@ impl Slots {
             spare: all_buffers(alloc)?,
             order: ArrayVec::new(),
             watch: Watch::new(),
+            notes: Notes::new(),
         })
     }
 
@@ -155,8 +159,19 @@ impl Slots {
         self.watch.due <= now
     }
 
-    /// Whether a round of writing does something on the connection in a slot.
-    pub fn has_to_write(&self, slot: Slot) -> bool
+    /// Whether a round of writing does something on the connection in a slot: told at once at the place where it stands if none went before.
+    #[inline(always)]
+    pub fn has_to_write(&self, slot: Slot, place: usize) -> bool
+        ensures { result ≡ option_map_or (λ e. has_to_write e.value) (entry_under self.now slot) false }
+    {
+        match self.notes.at(place) {
+            Some(note) if note.slot == slot => note.writes,
+            _ => self.has_to_write_under(slot),
+        }
+    }
+
+    // The same, wherever it stands.
+    fn has_to_write_under(&self, slot: Slot) -> bool
         ensures { result ≡ option_map_or (λ e. has_to_write e.value) (entry_under self.now slot) false }
     {
         match self.table.get(slot) {
@@ -170,10 +185,8 @@ impl Slots {
     pub fn service(&self, slot: Slot, place: usize) -> Service
         ensures { IsServedSo (value_under self.now slot) result }
     {
-        match self.table.at(place) {
-            Some(entry) if entry.slot == slot && !owes(self.watch.owes, &entry.value) => {
-                entry.value.service()
-            }
+        match self.notes.at(place) {
+            Some(note) if note.slot == slot => note.service,
             _ => Service::Owed,
         }
     }
@@ -241,6 +254,7 @@ impl Slots {
         self.watch.note(&connection);
         let slot = insert(&mut self.table, flow, connection);
         self.order = slots_of(&self.table);
+        self.notes = Notes::of(&self.table);
         slot
     }
 
@@ -254,6 +268,7 @@ impl Slots {
         self.watch.note(&connection);
         insert(&mut self.table, flow, connection);
         self.order = slots_of(&self.table);
+        self.notes = Notes::of(&self.table);
     }
 
     /// All connections leave the table.
@@ -282,6 +297,7 @@ impl Slots {
         };
         self.spare.push_reserved(connection.into_buffers());
         self.order = slots_of(&self.table);
+        self.notes = Notes::of(&self.table);
     }
 }
 
@@ -300,7 +316,7 @@ impl Slots {
             return Verdict::Ignore;
         };
         let verdict = connection.on_packet(header);
-        self.watch.note(connection);
+        note(&mut self.watch, &mut self.notes, slot, connection);
         verdict
     }
 
@@ -316,7 +332,7 @@ impl Slots {
             return;
         };
         connection.accept(flow.host);
-        self.watch.note(connection);
+        note(&mut self.watch, &mut self.notes, slot, connection);
     }
 
     /// Payload that the end of the connection in a slot delivers is to be written.
@@ -329,7 +345,7 @@ impl Slots {
             return;
         };
         connection.deliver(payload);
-        self.watch.note(connection);
+        note(&mut self.watch, &mut self.notes, slot, connection);
     }
 
     /// The stream of the connection in a slot is closed.
@@ -340,7 +356,7 @@ impl Slots {
             return;
         };
         connection.stream_closed();
-        self.watch.note(connection);
+        note(&mut self.watch, &mut self.notes, slot, connection);
     }
 
     /// The connection in a slot is over, and its stream is closed.
@@ -351,7 +367,7 @@ impl Slots {
             return;
         };
         connection.cut_off();
-        self.watch.note(connection);
+        note(&mut self.watch, &mut self.notes, slot, connection);
     }
 
     /// Shuts directions of the connection in a slot, at a moment.
@@ -364,7 +380,7 @@ impl Slots {
             return;
         };
         connection.shut(bits, now);
-        self.watch.note(connection);
+        note(&mut self.watch, &mut self.notes, slot, connection);
     }
 
     /// The stream of the connection in a slot took the first `n` of the bytes that were to be written.
@@ -376,7 +392,7 @@ impl Slots {
             return;
         };
         connection.written(n);
-        self.watch.note(connection);
+        note(&mut self.watch, &mut self.notes, slot, connection);
     }
 
     /// The side that the device writes to is shut, of the stream of the connection in a slot.
@@ -387,7 +403,7 @@ impl Slots {
             return;
         };
         connection.write_shut();
-        self.watch.note(connection);
+        note(&mut self.watch, &mut self.notes, slot, connection);
     }
 
     /// Notes that the connection in a slot had no credit for what was to be sent.
@@ -400,7 +416,7 @@ impl Slots {
             return;
         };
         connection.want_credit();
-        self.watch.note(connection);
+        note(&mut self.watch, &mut self.notes, slot, connection);
     }
 
     /// Raises the buffer space of the connection in a slot to `alloc` bytes.
@@ -412,7 +428,7 @@ impl Slots {
             return;
         };
         connection.grow(alloc);
-        self.watch.note(connection);
+        note(&mut self.watch, &mut self.notes, slot, connection);
     }
 
     /// Counts `n` bytes as sent on the connection in a slot.
@@ -424,7 +440,7 @@ impl Slots {
             return;
         };
         connection.sent(n);
-        self.watch.note(connection);
+        note(&mut self.watch, &mut self.notes, slot, connection);
     }
 
     /// Counts a packet that the connection in a slot owed as put, at a moment.
@@ -436,7 +452,7 @@ impl Slots {
             return;
         };
         connection.paid(what, now);
-        self.watch.note(connection);
+        note(&mut self.watch, &mut self.notes, slot, connection);
     }
 }
 
@@ -479,11 +495,14 @@ fn slots_of(table: &FlowTable<Connection>) -> ArrayVec<Slot, DEVICE_CONNECTIONS>
     all
 }
 
-// Whether a connection owes a packet, where it may.
-fn owes(may: bool, connection: &Connection) -> bool
-    ensures { result ≡ false → may ≡ true → owes_of connection.now.end ≡ None }
+// Notes anew the connection in a slot, which may have changed.
+fn note(watch: &mut Watch, notes: &mut Notes, slot: Slot, connection: &Connection)
+    ensures watched { IsWatched watch.new connection.now }
+    ensures others { (c : DeviceConnection) → IsWatched watch.old c → IsWatched watch.new c }
+    ensures noted { notes.new ≡ map (renoted (note_of slot connection.now)) notes.old }
 {
-    may && connection.owes().is_some()
+    watch.note(connection);
+    notes.put(Note::of(slot, connection));
 }
 
 // The buffers of all slots.

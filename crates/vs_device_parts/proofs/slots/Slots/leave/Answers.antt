@@ -25,5 +25,6 @@ invariant_of-self-2 c =
       buffer_room = omega (arith, kept.buffer_room, c.push_reserved.ensures.capacity);
       spare = rw c.push_reserved.ensures.items (All-push IsSpare s.spare.items c.into_buffers.result kept.spare c.into_buffers.ensures);
       order = c.slots_of-self-inside.ensures;
+      notes = c.of-self-inside.ensures;
       watched = rw table (watched_without s.watch s.table c.args.slot kept.watched);
     }

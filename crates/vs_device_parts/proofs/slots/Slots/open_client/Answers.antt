@@ -18,5 +18,6 @@ invariant_of-self c =
       buffer_room = omega (arith, kept.buffer_room, c.take_last.ensures.capacity);
       spare = all_front IsSpare c.take_last.new.self.items c.take_last.result s.spare.items c.take_last.ensures.items kept.spare;
       order = c.slots_of-self-inside.ensures;
+      notes = c.of-self-inside.ensures;
       watched = rw table (watched_with_entry s.watch c.note.new.self c.note.ensures.others s.table kept.watched c.args.flow c.client-connection.result c.note.ensures.watched);
     }

@@ -23,6 +23,7 @@ invariant_of-self c =
       buffer_room = kept.buffer_room;
       spare = kept.spare;
       order = kept.order;
+      notes = kept.notes;
       watched = watched_all c.loop-entry.watch s.table.entries c.loop-entry.place (past_all s.table.entries c.loop-entry.place (sym c.in_default.ensures.entry))
           c.loop-entry.invariant.watched;
     }
