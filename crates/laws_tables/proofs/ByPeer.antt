@@ -234,7 +234,7 @@ clean_steady : (ps : List Packet) → has is_clean_rst (steady ps) ≡ has is_cl
 clean_steady [] = refl
 clean_steady (p ∷ ps) = let rest = clean_steady ps in grind (arith, common_steps)
 
-request_steady : (ps : List Packet) → has is_request (steady ps) ≡ has is_request ps
+pub request_steady : (ps : List Packet) → has is_request (steady ps) ≡ has is_request ps
 request_steady [] = refl
 request_steady (p ∷ ps) = let rest = request_steady ps in grind (arith, common_steps)
 

@@ -247,7 +247,7 @@ over_fresh = grind (arith, common_steps)
 none_fresh : (h : History) → (gots h ≡ []) × (puts h ≡ []) → is_fresh h ≡ true
 none_fresh = grind (arith, common_steps)
 
-request_side : (side : Side) (p : Packet) → is_request p ≡ true → MayPut (peer side) [] [] p → side ≡ Answerer
+pub request_side : (side : Side) (p : Packet) → is_request p ≡ true → MayPut (peer side) [] [] p → side ≡ Answerer
 request_side = grind (arith, common_steps)
 
 begun_some : (h : History) → is_begun Answerer (gots h) (puts h) ≡ true → is_empty h ≡ false

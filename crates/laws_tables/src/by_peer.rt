@@ -4,7 +4,7 @@ ghost use Rattle.std.specs.Prelude.{◌≡◌, ◌<◌, ◌≤◌, ℕ, true, fa
 ghost use Rattle.vs_conn.specs.{Follows.{FitsMessage, IsTaken}, declared.end.Owed.Owed, End.{CanSend, ConnectionEnd, owes_of}};
 ghost use Rattle.vs_flow.specs.{Flow.is_host, declared.flow.Flow.Flow};
 ghost use Rattle.vs_header.specs.declared.Kind.{Kind};
-ghost use Rattle.laws_history.specs.{Beside.is_plain_rst, History.{Asker, puts}, Packets.is_rst, declared.packet.Packet.Packet};
+ghost use Rattle.laws_history.specs.{Beside.is_plain_rst, History.{Asker, puts}, Packets.{is_request, is_rst}, declared.packet.Packet.Packet};
 ghost use Rattle.laws_tables.specs.{ByPeer.IsSoundByPeer, Ends.{Ends, is_among, is_new}, Heard.{IsInOrder, heard_of, own_port}, Matches.{IsOwed, IsReady, Matches}, Steps.{HasEnd, HasNone, owed_on}};
 ghost use Rattle.laws_tables.specs.Steps.{payload_on, reply_on, request_on};
 ghost use Rattle.vs_page.specs.{Fair.{IsFairLog, IsFairLogByPeer}, Log.{Log, Role, flow_got, history_of, side_of}, Open.is_dropped};
@@ -48,6 +48,10 @@ pub fn law_of_order_by_peer()
         IsFairLogByPeer role (GotPacket p ∷ log) → side_of role f ≡ Asker → is_plain_rst p ≡ false
         → IsInOrder (side_of role f) (heard_of role first f log) p }
     ensures fits { (role : Role) (p : Packet) (log : Log) → IsFairLogByPeer role (GotPacket p ∷ log) → IsTaken p }
+    // On a flow that has a connection whose REQUEST was put or got, so does every packet but a REQUEST.
+    ensures known { (role : Role) (first : ℕ) (f : Flow) (p : Packet) (e : ConnectionEnd) (part : Ends) (log : Log) → Matches role first part log
+        → IsFairLogByPeer role log → HasEnd f e part → is_new e ≡ false → is_request p ≡ false
+        → IsInOrder (side_of role f) (heard_of role first f log) p }
 {}
 
 /// An RST that comes from another guest before any REQUEST on its flow, since that guest changed its CID, changes no connection: an end that asks
