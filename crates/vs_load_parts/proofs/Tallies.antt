@@ -5,7 +5,7 @@ use Rattle.laws_driver.specs.Carried.Calls.{Journal, received_by}
 use Rattle.vs_apps_parts.specs.{Journals.{calls_of, sent_as}, Scripts.RunScript, declared.journal.Entry.Entry}
 use Rattle.vs_excerpt.specs.{Excerpt.excerpt_of, declared.Excerpt.Excerpt}
 use Rattle.vs_run_report.specs.{Connections.{capped, opened_all}, Load.matches, declared.connection.Opened.Opened}
-use Rattle.vs_load_parts.specs.{Line.{CameBack, adds, counted_of, counts, no_tally, tally_of}, declared.tally.Tally.Tally}
+use Rattle.vs_load_parts.specs.{Line.{CameBack, adds, counts, no_tally, tally_of}, declared.tally.Tally.Tally}
 
 -- As many places match of a list and one that it begins with as that has.
 match_front : (xs more : List ℕ) → matches (xs ++ more) xs ≡ length xs
@@ -26,8 +26,8 @@ all_as journal (o ∷ os) t back =
     ∙ all_as journal os (counts journal t o) (All-tail (CameBack journal) o os back)
 
 pub counted_as : (script : RunScript) (entries : List Entry) (bytes : List ℕ) (t : Tally)
-    → All (CameBack (calls_of script bytes entries)) (opened_all (length script) entries) → t ≡ counted_of script entries bytes
-    → t ≡ tally_of script entries bytes
+    → All (CameBack (calls_of script bytes entries)) (opened_all (length script) entries)
+    → t ≡ fold (counts (calls_of script bytes entries)) no_tally (opened_all (length script) entries) → t ≡ tally_of script entries bytes
 counted_as script entries bytes t back is = is ∙ sym (all_as (calls_of script bytes entries) (opened_all (length script) entries) no_tally back)
 
 -- A connection more.

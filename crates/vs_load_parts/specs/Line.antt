@@ -37,6 +37,3 @@ counts journal t o = record {
   sent = capped (t.sent + length (sent_as o.id journal));
   matched = capped (t.matched + length (received_by o.id journal));
 }
-
-abbrev pub counted_of : RunScript → List Entry → List ℕ → Tally
-counted_of script entries bytes = fold (counts (calls_of script bytes entries)) no_tally (opened_all (length script) entries)

@@ -3,7 +3,7 @@
 ghost use Rattle.std.specs.{Prelude.{◌≡◌, IfOk, length, string_bytes}, List.{All, fold}};
 ghost use Rattle.vs_apps_parts.specs.{Journals.calls_of, Scripts.script_of};
 ghost use Rattle.vs_run_report.specs.Connections.{listed, opened_all, opened_of};
-ghost use Rattle.vs_load_parts.specs.Line.{CameBack, counted_of, counts, load_line, tally_of};
+ghost use Rattle.vs_load_parts.specs.Line.{CameBack, counts, load_line, tally_of};
 
 use std::alloc::{AllocError, Global};
 use vs_apps_parts::journal::{Entry, Journal};
@@ -65,9 +65,12 @@ fn add_app(before: Tally, app: usize, script: &[App], journal: &Journal) -> Tall
     add_all_opened(before, app, script, journal.entries(), journal)
 }
 
-// What all connections of a run's apps come to, by the journal.
-fn counted_of(script: &[App], journal: &Journal) -> Tally
-    ensures { result ≡ counted_of (script_of script.now) journal.now.entries journal.now.bytes }
+/// The bytes that were sent on all connections, and the places that match, by the journal, where what was received on each is a prefix of what was sent
+/// there: so the bytes that were received are as many as match.
+pub fn tally_of(script: &[App], journal: &Journal) -> Tally
+    requires { All (CameBack (calls_of (script_of script.now) journal.now.bytes journal.now.entries))
+        (opened_all (length (script_of script.now)) journal.now.entries) }
+    ensures { result ≡ tally_of (script_of script.now) journal.now.entries journal.now.bytes }
 {
     let mut tally = Tally {
         sent: 0,
@@ -77,15 +80,6 @@ fn counted_of(script: &[App], journal: &Journal) -> Tally
         tally = add_app(tally, k, script, journal);
     }
     tally
-}
-
-/// The bytes that were sent on all connections, and the places that match, where what was received on each is a prefix of what was sent there.
-pub fn tally_of(script: &[App], journal: &Journal) -> Tally
-    requires { All (CameBack (calls_of (script_of script.now) journal.now.bytes journal.now.entries))
-        (opened_all (length (script_of script.now)) journal.now.entries) }
-    ensures { result ≡ tally_of (script_of script.now) journal.now.entries journal.now.bytes }
-{
-    counted_of(script, journal)
 }
 
 /// The line of a load with so many apps, by the journal, where what was received on each connection is a prefix of what was sent there. The only error

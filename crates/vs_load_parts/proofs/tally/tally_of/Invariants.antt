@@ -2,7 +2,7 @@ use Rattle.std.{proofs.Common.◌≡◌, specs.List.fold}
 use Rattle.vs_apps_parts.specs.{Journals.calls_of, Scripts.script_of}
 use Rattle.vs_run_report.specs.Connections.{opened_all}
 use Rattle.vs_load_parts.specs.Line.{counts, no_tally}
-use Rattle.vs_load_parts.proofs.tally.counted_of.Given as goal
+use Rattle.vs_load_parts.proofs.tally.tally_of.Given as goal
 
 -- the connections of the apps so far
 abbrev pub invariant-loop-k : goal.invariant-loop-k
