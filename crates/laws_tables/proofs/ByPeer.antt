@@ -1,5 +1,5 @@
 -- What an end puts keeps its log fair by the peer.
-use Rattle.std.proofs.Common.{◌≡◌, ◌≢◌, ℕ, ◌+◌, ◌≤◌, Bool, true, false, if◌then◌else◌, inl, inr, List, [], ◌∷◌, length, Some, refl, sym, ap, ◌∙◌, subst, subst₂, arith}
+use Rattle.std.proofs.Common.{◌≡◌, ℕ, ◌≤◌, Bool, true, false, if◌then◌else◌, List, [], ◌∷◌, length, Some, refl, sym, ap, ◌∙◌, subst, subst₂, arith}
 use Rattle.std.proofs.lemmas.Grind.{common_steps}
 use Rattle.vs_conn.{specs.{Follows.{FitsMessage, IsTaken}, declared.end.Owed.Owed, End.{CanSend, ConnectionEnd, owes_of}}, proofs.Steps.{pay_may, send_may, taken_of}}
 use Rattle.vs_flow.specs.{Flow.{is_host, same_flow}, declared.flow.Flow.Flow}
@@ -7,8 +7,8 @@ use Rattle.vs_header.specs.declared.Kind.{Kind}
 use Rattle.laws_history.specs.{Again.{AllowsNow, MayPutNow, present}, Beside.{is_plain_rst, steadied, steady}, History.{Answerer, Asker, Got, History, IsFair, MayPut, Put, Side, gots, peer, puts}, declared.packet.Packet.Packet}
 use Rattle.laws_history.specs.Packets.{IsFormed, has, is_clean_rst, is_request, is_rst, told_alloc}
 use Rattle.laws_history.proofs.{BesidePairs.{sound_beside, steadied_fair, steady_gots, steady_present, steady_puts}, Fair.{BothSound, sound}, Present.fair_once, Steady.now_formed, Ties.{Later, may_put_later}}
-use Rattle.vs_page.specs.{Fair.{AllowsTo, IsFairByPeer, IsFairLog, IsFairLogByPeer, IsFairTo}, Log.{Log, Role, and_then, flow_got, flow_put, history_of, side_of, whole_of}, Open.{cid_of, is_dropped}}
-use Rattle.vs_page.{specs.declared.log.LogEntry.TheVariants.{GotEvent, GotPacket, Mark, PutEvent, PutPacket}, proofs.{ByPeer.{allows_by_peer, by_peer, one_got, one_put, plain_puts}, Entries.present_is, Flows.same_is}}
+use Rattle.vs_page.specs.{Fair.{AllowsTo, IsFairLog, IsFairLogByPeer, IsFairTo}, Log.{Log, Role, and_then, flow_got, flow_put, history_of, side_of, whole_of}, Open.{cid_of, is_dropped}}
+use Rattle.vs_page.{specs.declared.log.LogEntry.TheVariants.{GotPacket, PutPacket}, proofs.{ByPeer.{allows_by_peer, by_peer, one_got, one_put, plain_puts}, Entries.present_is, Flows.same_is}}
 use Rattle.vs_replies.specs.declared.Reply.{Reply}
 use Rattle.laws_tables.specs.{ByPeer.IsSoundByPeer, Ends.{Ends, is_new}, Heard.{IsInOrder, IsWithin, IsWithinCredit, heard_of, hears, own_port, route_of}, Matches.{IsOwed, IsReady, Matches}}
 use Rattle.laws_tables.specs.Steps.{HasEnd, owed_on, payload_on, reply_on, request_on}

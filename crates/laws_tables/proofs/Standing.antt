@@ -1,9 +1,9 @@
 -- Where a log that is fair by the peer leaves a flow open at the end that asks, no marked RST was heard since its REQUEST.
-use Rattle.std.proofs.{Common.{◌≡◌, ℕ, ◌==◌, Bool, true, false, if◌then◌else◌, Option, Some, None, List, [], ◌∷◌, refl, sym, ap, ◌∙◌, subst, arith}, lemmas.Grind.common_steps}
+use Rattle.std.proofs.{Common.{◌≡◌, ℕ, ◌==◌, Bool, true, false, if◌then◌else◌, Some, List, [], ◌∷◌, refl, sym, ap, ◌∙◌, subst, arith}, lemmas.Grind.common_steps}
 use Rattle.std.proofs.lemmas.Bool.{eq-eqb}
 use Rattle.vs_conn.specs.End.{ConnectionEnd}
 use Rattle.vs_flow.specs.{Flow.{is_host, same_flow}, declared.flow.Flow.Flow}
-use Rattle.laws_history.specs.{Beside.{is_plain_rst, steady}, History.{Answerer, Asker, Got, History, Put, Side, gots, is_begun, puts}, declared.packet.Packet.Packet}
+use Rattle.laws_history.specs.{Beside.{is_plain_rst, steady}, History.{Answerer, Asker, Got, History, Put, gots, is_begun, puts}, declared.packet.Packet.Packet}
 use Rattle.laws_history.specs.Packets.{asked_kind, has, is_clean_rst, is_request, is_rst}
 use Rattle.vs_page.specs.{Fair.{AllowsTo, IsFairLogByPeer}, Log.{Log, Role, and_then, flow_got, flow_put, history_of, side_of}, Open.{Clean, Open, Over, Phase, Unused, cid_of, ended_by}}
 use Rattle.vs_page.specs.{Open.{is_clean_end, is_dropped, open_kind, phase_got, phase_heard, phase_of, phase_put, phase_reset}, declared.log.LogEntry.TheVariants.{GotEvent, GotPacket, Mark, PutEvent, PutPacket}}
