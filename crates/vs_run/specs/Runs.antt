@@ -20,9 +20,9 @@ IsRight _ = Unit {0}
 abbrev pub IsUntouched : Option HostContents → Option HostContents → ℕ → ℕ → Type 0
 IsUntouched host host' faults faults' = (host' ≡ host) × (faults' ≡ faults)
 
--- How the apps of a script end, under this base path, of a guest with this first port: a run was over, and its report was written, with its status, which is right, and the
--- run complete under that path, where the host exposed its streams and none had a label; or memory ran out, and `no memory` was written, and nothing before; or the host didn't start, and `host
--- fault` was written.
+-- How the apps of a script end, under this base path, of a guest with this first port: a run was over, and its report was written, with its
+-- status, which is right, and the run complete under that path, where the host exposed its streams and none had a label; or memory ran out, and
+-- `no memory` was written, and nothing before; or the host didn't start, and `host fault` was written.
 abbrev pub EndsOver : List ℕ → ℕ → ℕ → RunScript → Option HostContents → Option HostContents → ℕ → ℕ → Option (List ℕ) → Option (List ℕ) → ℕ → ℕ → ℕ → Type 0
 EndsOver base idle first script host host' failed failed' out out' faults faults' result =
     IsOver first script (start_with base host failed) host' failed' (λ g p. EndsAs out out' faults faults' (joined (texts_of idle script g p)) (run_status script g.apps g.entries)
