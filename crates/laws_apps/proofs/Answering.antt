@@ -306,7 +306,7 @@ module _ (journal : Journal) where
 abbrev gives : Journal → Fact
 gives journal part s log = AreGiven journal s.next_id s.listeners
 
-poll_gives : (first : ℕ) (journal : Journal) → Carries true first (gives journal)
+poll_gives : (first : ℕ) (journal : Journal) → Carries true true first (gives journal)
 poll_gives first journal = poll_sees (λ port next table gone ls. AreGiven journal next ls) (small_given journal) first
 
 -- Why a connect is refused, whatever the ring.
@@ -476,7 +476,7 @@ module _ (first : ℕ) (journal : Journal) (s : DriverState) (c d : RingContents
   call_answered call x apps right plays = λ on m is.
       let before = told_before (whole_call call s) c d x plays m is in
       let then = was (sym (honest_stays (whole_call call s) c d x plays) ∙ on) before.0 before.1 in
-      let kept : Rests true first (gives_after journal call x.1) x.0 d =
+      let kept : Rests true true first (gives_after journal call x.1) x.0 d =
       keeps_end _ (whole_call call s) c d x (whole_with first s c call (gives journal) (gives_after journal call) right (call_gives first journal call apps)
       (begins first (gives journal) s c before.0 before.1 then honest)) plays in
       (kept on m is).1 (so call x plays)
@@ -506,8 +506,8 @@ module _ (first : ℕ) (journal : Journal) (s : DriverState) (c d : RingContents
   poll_answered x plays = λ on m is.
       let before = told_before (poll_of s) c d x plays m is in
       let then = was (sym (honest_stays (poll_of s) c d x plays) ∙ on) before.0 before.1 in
-      let kept : Rests true first (gives journal) x.0 d =
-      keeps_end _ (poll_of s) c d x (poll_keeps true first (gives journal) (poll_gives first journal) s c
+      let kept : Rests true true first (gives journal) x.0 d =
+      keeps_end _ (poll_of s) c d x (poll_keeps true true first (gives journal) (poll_gives first journal) s c
       (begins first (gives journal) s c before.0 before.1 then honest)) plays in
       (kept on m is).1
 
@@ -517,5 +517,5 @@ new_answered size port c d s fits fresh plays = λ on l is. (kept on l is).1
     none : AreGiven [] 1 []
     none = record { given = λ id is. absurd cc; waits = λ p i is. absurd cc; one = λ p q i a b. absurd cc; heard = λ p is. absurd cc; all = tt }
 
-    kept : Rests true s.cid (gives []) s d
-    kept = keeps_end (λ t e. Rests true t.cid (gives []) t e) (new_of size port 1) c d s (new_keeps size port 1 fits (gives []) (λ cid. none) c fresh) plays
+    kept : Rests true true s.cid (gives []) s d
+    kept = keeps_end (λ t e. Rests true true t.cid (gives []) t e) (new_of size port 1) c d s (new_keeps size port 1 fits true (gives []) (λ cid. none) c fresh) plays

@@ -28,7 +28,7 @@ module _ (first : ℕ) (call : GuestCall) (s : DriverState) (c d : RingContents)
   call_honest = λ on m is.
       let before = told_before (whole_call call s) c d x plays m is in
       let l : EndLog = before.0 in
-      let kept : Rests true first (sent_with first s l.entries call x.1) x.0 d =
+      let kept : Rests true true first (sent_with first s l.entries call x.1) x.0 d =
       keeps_end _ (whole_call call s) c d x (whole_with first s c call (at_first first s l.entries) (sent_with first s l.entries call) right
       (call_sent first s l.entries call) (begins first (at_first first s l.entries) s c l before.1 (refl, refl) honest)) plays in
       agrees true first x.0 m (kept on m is).0

@@ -280,5 +280,5 @@ module _ (by journal : Journal) where
         traced_still by s.next_id (s.next_id + 1) s.table.entries _ (omega arith) (one_comes by s.next_id s.table.entries _ (omega arith) refl) journal x;
   }
 
-  pub poll_traces : (first : ℕ) → Carries true first (Traced by journal)
+  pub poll_traces : (first : ℕ) → Carries true true first (Traced by journal)
   poll_traces first = poll_sees (λ port next table gone ls. IsTraced by journal next table.entries) small_traced first

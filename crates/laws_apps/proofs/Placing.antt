@@ -94,7 +94,7 @@ small_places journal = record {
     same_id verdict.Deliver p c = refl
     same_id v p c = refl
 
-pub poll_places : (first : ℕ) (journal : Journal) → Carries true first (places journal)
+pub poll_places : (first : ℕ) (journal : Journal) → Carries true true first (places journal)
 poll_places first journal = poll_sees (HasPlaces journal) (small_places journal) first
 
 -- A call of an app's is no unlisten. What is noted of it, and the flow of the connection that it opened.
@@ -298,7 +298,7 @@ module _ (first n : ℕ) (journal : Journal) (entries : List Entry) (s : DriverS
   call_placed call x apps right plays on m is =
       let before = told_before (whole_call call s) c d x plays m is in
       let then = was (sym (honest_stays (whole_call call s) c d x plays) ∙ on) before.0 before.1 in
-      let kept : Rests true first (places_after journal call x.1) x.0 d =
+      let kept : Rests true true first (places_after journal call x.1) x.0 d =
       keeps_end _ (whole_call call s) c d x (whole_with first s c call (places journal) (places_after journal call) right (call_places journal first call apps)
       (begins first (places journal) s c before.0 before.1 then.0 honest)) plays in
       ((kept on m is).1.0, named call x.1 x.0 (kept on m is).1.1, then.1)
@@ -311,8 +311,8 @@ module _ (first n : ℕ) (journal : Journal) (entries : List Entry) (s : DriverS
   poll_placed x plays = λ on m is.
       let before = told_before (poll_of s) c d x plays m is in
       let then = was (sym (honest_stays (poll_of s) c d x plays) ∙ on) before.0 before.1 in
-      let kept : Rests true first (places journal) x.0 d =
-      keeps_end _ (poll_of s) c d x (poll_keeps true first (places journal) (poll_places first journal) s c
+      let kept : Rests true true first (places journal) x.0 d =
+      keeps_end _ (poll_of s) c d x (poll_keeps true true first (places journal) (poll_places first journal) s c
       (begins first (places journal) s c before.0 before.1 then.0 honest)) plays in
       ((kept on m is).1, then.1)
 
@@ -336,6 +336,6 @@ new_placed n size port c d s fits fresh plays = λ on l is. ((kept on l is).1, t
       ports = λ i e within. absurd (omega (arith, within));
     }
 
-    kept : Rests true s.cid (places []) s d
+    kept : Rests true true s.cid (places []) s d
     kept =
-        keeps_end (λ t e. Rests true t.cid (places []) t e) (new_of size port 1) c d s (new_keeps size port 1 fits (places []) empty c fresh) plays
+        keeps_end (λ t e. Rests true true t.cid (places []) t e) (new_of size port 1) c d s (new_keeps size port 1 fits true (places []) empty c fresh) plays

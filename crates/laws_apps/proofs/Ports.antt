@@ -41,7 +41,7 @@ leaving_port e s = by e.value.unanswered
 abbrev at_port : ℕ → Journal → Fact
 at_port n journal part s log = ArePlaced journal s × (s.next_port ≡ n)
 
-poll_ports : (first n : ℕ) (journal : Journal) → Carries true first (at_port n journal)
+poll_ports : (first n : ℕ) (journal : Journal) → Carries true true first (at_port n journal)
 poll_ports first n journal =
     let was = small_places journal in
     poll_sees (λ port next table gone ls. HasPlaces journal port next table gone ls × (port ≡ n)) (record {
@@ -234,7 +234,7 @@ module _ (port first : ℕ) (script : RunScript) (k : ℕ) (less : k < length sc
       let before = told_before (whole_call m.call s) old.ring new.ring x makes.plays l is in
       let then = sym (honest_stays (whole_call m.call s) old.ring new.ring x makes.plays) ∙ on in
       let was = gives then before.0 before.1 in
-      let rests : Rests true first (takes_port n m.call m.reply) new.driver new.ring =
+      let rests : Rests true true first (takes_port n m.call m.reply) new.driver new.ring =
       keeps_end _ (whole_call m.call s) old.ring new.ring x
       (whole_with first s old.ring m.call (at_port n journal) (takes_port n m.call) makes.right (call_ports n first journal m.call apps)
       (begins first (at_port n journal) s old.ring before.0 before.1 ((kept.places then before.0 before.1).0, was.next) kept.honest)) makes.plays in
@@ -260,8 +260,8 @@ module _ (port first : ℕ) (script : RunScript) where
       let before = told_before (poll_of old.driver) old.ring mid.ring x polls.polls l is in
       let then = sym (honest_stays (poll_of old.driver) old.ring mid.ring x polls.polls) ∙ on in
       let was = gives then before.0 before.1 in
-      let rests : Rests true first (at_port n journal) mid.driver mid.ring =
-      keeps_end _ (poll_of old.driver) old.ring mid.ring x (poll_keeps true first (at_port n journal) (poll_ports first n journal) old.driver old.ring
+      let rests : Rests true true first (at_port n journal) mid.driver mid.ring =
+      keeps_end _ (poll_of old.driver) old.ring mid.ring x (poll_keeps true true first (at_port n journal) (poll_ports first n journal) old.driver old.ring
       (begins first (at_port n journal) old.driver old.ring before.0 before.1 ((run.kept.places then before.0 before.1).0, was.next) run.kept.honest)) polls.polls in
       record { are = was.are; next = (rests on l is).1.1 })
 
@@ -298,5 +298,5 @@ new_ports size port c d s fits fresh plays = λ on l is. let at = (kept on l is)
     begins_at : Fact
     begins_at part t log = t.next_port ≡ port
 
-    kept : Rests true s.cid begins_at s d
-    kept = keeps_end (λ t e. Rests true t.cid begins_at t e) (new_of size port 1) c d s (new_keeps size port 1 fits begins_at (λ cid. refl) c fresh) plays
+    kept : Rests true true s.cid begins_at s d
+    kept = keeps_end (λ t e. Rests true true t.cid begins_at t e) (new_of size port 1) c d s (new_keeps size port 1 fits true begins_at (λ cid. refl) c fresh) plays

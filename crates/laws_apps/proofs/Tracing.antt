@@ -316,7 +316,7 @@ noted_traced : (call : GuestCall) (reply : ReplyTo call) (journal : Journal) (ne
 noted_traced call reply journal next es none x tells = grind (arith, common_steps)
 
 -- A send and a connect, on the ring.
-send_traces : (first : ℕ) (by journal : Journal) (id : ℕ) (bytes : List ℕ) → CarriesSend true first id bytes (Traced by journal) (λ answer. Traced by journal)
+send_traces : (first : ℕ) (by journal : Journal) (id : ℕ) (bytes : List ℕ) → CarriesSend true true first id bytes (Traced by journal) (λ answer. Traced by journal)
 send_traces first by journal id bytes = record {
   stopped = λ why s log x. x;
   unknown = λ s log none x. x;
@@ -333,7 +333,7 @@ send_traces first by journal id bytes = record {
     changes s e end within over own peer x = value_traced by journal s e.slot (record e.value { end = end })
         (comes_as by s.table.entries e (record e.value { end = end }) within refl own refl (end_later e.value end over own peer)) x
 
-connect_traces : (first : ℕ) (journal : Journal) (port : ℕ) → CarriesConnect true first HOST_CID port (Traced journal journal) (λ answer. Traced journal journal)
+connect_traces : (first : ℕ) (journal : Journal) (port : ℕ) → CarriesConnect true true first HOST_CID port (Traced journal journal) (λ answer. Traced journal journal)
 connect_traces first journal port = record {
   refused = λ why s log x. x;
   opens = λ s log fits free m was fair x.
@@ -377,7 +377,7 @@ module _ (first n : ℕ) (s : DriverState) (c d : RingContents) (journal : Journ
       by : (call : GuestCall) (x : DriverState × ReplyTo call) → is_right call ≡ true → IsApps n call → Plays (whole_call call s) c x d → Noted call x.1 x.0
       by (Unlisten port) x right apps plays = absurd apps
       by (Connect port) x right apps plays =
-          let kept : Rests true first (Traced journal journal) x.0 d =
+          let kept : Rests true true first (Traced journal journal) x.0 d =
           keeps_end _ (whole_call (Connect port) s) c d x (whole_with first s c (Connect port) (Traced journal journal) (λ answer. Traced journal journal) right
           (connect_traces first journal port) (begins first (Traced journal journal) s c l told t honest)) plays in
           noted_traced (Connect port) x.1 journal x.0.next_id x.0.table.entries (λ id. refl) (kept on_now m now).1 tt
@@ -387,7 +387,7 @@ module _ (first n : ℕ) (s : DriverState) (c d : RingContents) (journal : Journ
           (sends_end s fits numbers journal t id bytes (subst (λ (i : ℕ). i < s.next_id) (sym apps) less)) plays in
           let new = with_noted (made_as (Send id bytes) x.1 ∷ []) journal in
           let noted = noted_traced (Send id bytes) x.1 journal s.next_id s.table.entries (λ i. refl) t tells in
-          let kept : Rests true first (Traced new new) x.0 d =
+          let kept : Rests true true first (Traced new new) x.0 d =
           keeps_end _ (whole_call (Send id bytes) s) c d x (whole_with first s c (Send id bytes) (Traced new new) (λ r. Traced new new) right (send_traces first new new id bytes)
           (begins first (Traced new new) s c l told noted honest)) plays in
           (kept on_now m now).1
@@ -433,8 +433,8 @@ pub poll_traced : (first : ℕ) (s : DriverState) (c d : RingContents) (journal 
 poll_traced first s c d journal x honest traced plays = λ on m is.
     let before = told_before (poll_of s) c d x plays m is in
     let then : c.honest ≡ true = sym (honest_stays (poll_of s) c d x plays) ∙ on in
-    let kept : Rests true first (Traced journal journal) x.0 d =
-    keeps_end _ (poll_of s) c d x (poll_keeps true first (Traced journal journal) (poll_traces journal journal first) s c
+    let kept : Rests true true first (Traced journal journal) x.0 d =
+    keeps_end _ (poll_of s) c d x (poll_keeps true true first (Traced journal journal) (poll_traces journal journal first) s c
     (begins first (Traced journal journal) s c before.0 before.1 (traced then before.0 before.1) honest)) plays in
     (kept on m is).1
 
@@ -445,5 +445,5 @@ new_traced size port c d s fits fresh plays = λ on l is. (kept on l is).1
     none : IsTraced [] [] 1 []
     none = record { touched = λ k e within. absurd (omega (arith, within)); closed = λ k e within. absurd (omega (arith, within)); tell = tt }
 
-    kept : Rests true s.cid (Traced [] []) s d
-    kept = keeps_end (λ t e. Rests true t.cid (Traced [] []) t e) (new_of size port 1) c d s (new_keeps size port 1 fits (Traced [] []) (λ cid. none) c fresh) plays
+    kept : Rests true true s.cid (Traced [] []) s d
+    kept = keeps_end (λ t e. Rests true true t.cid (Traced [] []) t e) (new_of size port 1) c d s (new_keeps size port 1 fits true (Traced [] []) (λ cid. none) c fresh) plays
