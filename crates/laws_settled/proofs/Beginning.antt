@@ -50,8 +50,9 @@ module _ (h : HostContents) (unlabelled : IsUnlabelled h) where
 
 -- THE BEGINNING
 pub new_begun : (base : List ℕ) (a : Situation) (l : EndLog) → a.ring.log ≡ Some l → l.entries ≡ []
-    → IsBegun (start_with a.host a.faults) (new_proxy FIRST_CID base) a
+    → IsBegun (start_with base a.host a.faults) (new_proxy FIRST_CID base) a
 new_begun base a l told silent = record {
+  based = refl;
   drops = λ on m there all. refl;
   streamed = λ unlabelled on m is few h there.
       let same = same_Some l m (sym told ∙ is) in
@@ -80,9 +81,10 @@ drops_at s a steady drops on l is =
 pub turn_begun : (size now : ℕ) (s : ProxyState) (a b : Situation) (x : ProxyState × Turn) → IsSteady s a → Runs (turn_of size now s) a x b
     → (start : Start) → IsBegun start s a → IsBegun start x.0 b
 turn_begun size now s a b x steady runs start begun =
-    let tallies : Tallies FIRST_CID start.faults x.0.device.cid x.0.device.dropped x.0.device.faults b =
-    turn_tallies FIRST_CID start.faults size now s a b x (record { drops = drops_at s a steady begun.drops; failed = begun.failed }) runs in
+    let tallies : Tallies FIRST_CID start.faults start.base x.0.device.base x.0.device.cid x.0.device.dropped x.0.device.faults b =
+    turn_tallies FIRST_CID start.faults start.base size now s a b x (record { based = begun.based; drops = drops_at s a steady begun.drops; failed = begun.failed }) runs in
     record {
+      based = tallies.based;
       drops = λ on l is. (tallies.drops on l is).1;
       streamed = λ unlabelled. turn_streamed s a b size now x runs FIRST_CID steady.order.ring (begun.streamed unlabelled);
       failed = tallies.failed;

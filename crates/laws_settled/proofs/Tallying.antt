@@ -148,64 +148,66 @@ module _ (cid own dropped : ℕ) (chain : Chain) (bytes : List ℕ) where
       subst CameAs (sym (two.3 ∙ one.3))
       (came_by page one.0 one.2.0 (one.2.1 on) (two.2 ∙ ap (λ (l : EndLog). take HEADER_LEN (bytes_in chain l.held)) one.3) (was on one.0 one.1))
 
--- BOTH, where the device has this CID, and so many calls had failed at first.
-module _ (cid first : ℕ) where
-  pub record Tallies (own dropped counted : ℕ) (c : Situation) : Type 0 where
+-- BOTH, where the device has this CID and this base path, and so many calls had failed at first.
+module _ (cid first : ℕ) (path : List ℕ) where
+  pub record Tallies (base : List ℕ) (own dropped counted : ℕ) (c : Situation) : Type 0 where
+    pub based : base ≡ path
     pub drops : Drops cid own dropped c.ring
     pub failed : CountsFailed first counted c.faults
 
   abbrev D : List Handshake → Option Chain → Seen → Situation → Type 0
-  D hands page s c = Tallies s.cid s.dropped s.faults c
+  D hands page s c = Tallies s.base s.cid s.dropped s.faults c
 
   abbrev U : List Handshake → Chain → Header → Seen → Situation → Type 0
   U hands chain h s c = D hands (Some chain) s c
 
   -- A call on the host, and one that failed and that the device counts.
-  host_go : (c d : Situation) (own dropped counted : ℕ) (b : Bool) → d.ring ≡ c.ring → CountsFault b c.faults d.faults → Tallies own dropped counted c
-      → Tallies own dropped counted d
-  host_go c d own dropped counted b same counts at = grind (arith, common_steps)
+  host_go : (c d : Situation) (base : List ℕ) (own dropped counted : ℕ) (b : Bool) → d.ring ≡ c.ring → CountsFault b c.faults d.faults → Tallies base own dropped counted c
+      → Tallies base own dropped counted d
+  host_go c d base own dropped counted b same counts at = grind (arith, common_steps)
 
-  host_fault : (c d : Situation) (own dropped counted new : ℕ) → d.ring ≡ c.ring → CountsFault true c.faults d.faults → Tallies own dropped counted c
-      → Tallies own dropped new d
-  host_fault c d own dropped counted new same counts at = grind (arith, common_steps)
+  host_fault : (c d : Situation) (base : List ℕ) (own dropped counted new : ℕ) → d.ring ≡ c.ring → CountsFault true c.faults d.faults → Tallies base own dropped counted c
+      → Tallies base own dropped new d
+  host_fault c d base own dropped counted new same counts at = grind (arith, common_steps)
 
-  ring_go : (call : DeviceCall) (a : DeviceAnswer call) (c d : Situation) (own dropped counted : ℕ) → IsOther call → Allows (Ring call) a c d
-      → Tallies own dropped counted c → Tallies own dropped counted d
-  ring_go call a c d own dropped counted other made at = record {
+  ring_go : (call : DeviceCall) (a : DeviceAnswer call) (c d : Situation) (base : List ℕ) (own dropped counted : ℕ) → IsOther call → Allows (Ring call) a c d
+      → Tallies base own dropped counted c → Tallies base own dropped counted d
+  ring_go call a c d base own dropped counted other made at = record {
+    based = at.based;
     drops = drops_still cid own dropped c.ring d.ring (ring_follows call a c d other made) at.drops;
     failed = rises false first counted c.faults d.faults made.2 at.failed;
   }
 
-  written_tallies : (own dropped counted : ℕ) (chain : Chain) (h : Header) (payload : List ℕ) (c : Situation) → Tallies own dropped counted c
-      → Keeps allowed (λ x d. Tallies own dropped counted d) (written chain h payload) c
-  written_tallies own dropped counted chain h [] c at = λ a d made b e more.
-      ring_go (Return chain HEADER_LEN) b d e own dropped counted tt more
-      (ring_go (Write chain 0 (header_bytes h)) a c d own dropped counted tt made at)
-  written_tallies own dropped counted chain h (x ∷ payload) c at = λ a d made b e more r f last.
-      ring_go (Return chain (HEADER_LEN + length (x ∷ payload))) r e f own dropped counted tt last
-      (ring_go (Write chain HEADER_LEN (x ∷ payload)) b d e own dropped counted tt more
-      (ring_go (Write chain 0 (header_bytes h)) a c d own dropped counted tt made at))
+  written_tallies : (base : List ℕ) (own dropped counted : ℕ) (chain : Chain) (h : Header) (payload : List ℕ) (c : Situation) → Tallies base own dropped counted c
+      → Keeps allowed (λ x d. Tallies base own dropped counted d) (written chain h payload) c
+  written_tallies base own dropped counted chain h [] c at = λ a d made b e more.
+      ring_go (Return chain HEADER_LEN) b d e base own dropped counted tt more
+      (ring_go (Write chain 0 (header_bytes h)) a c d base own dropped counted tt made at)
+  written_tallies base own dropped counted chain h (x ∷ payload) c at = λ a d made b e more r f last.
+      ring_go (Return chain (HEADER_LEN + length (x ∷ payload))) r e f base own dropped counted tt last
+      (ring_go (Write chain HEADER_LEN (x ∷ payload)) b d e base own dropped counted tt more
+      (ring_go (Write chain 0 (header_bytes h)) a c d base own dropped counted tt made at))
 
   module _ (hands : List Handshake) where
     closes : Closes allowed (D hands)
     closes = record {
-      cuts = λ e s c is at still a d made. host_go c d s.cid s.dropped s.faults false made.ring made.faults at;
+      cuts = λ e s c is at still a d made. host_go c d s.base s.cid s.dropped s.faults false made.ring made.faults at;
       was_cut = λ e s c is at closed. at;
-      leaves = λ page e v s c is closed stream at still a d made. host_go c d s.cid s.dropped s.faults false made.ring made.faults at;
+      leaves = λ page e v s c is closed stream at still a d made. host_go c d s.base s.cid s.dropped s.faults false made.ring made.faults at;
       was_left = λ page e v s c is closed stream at gone. at;
     }
 
     wrote : (e : DeviceEntry) (s : DeviceState) (a : StreamWrite) (c d : Situation) → d.ring ≡ c.ring → CountsFault (write_failed a) c.faults d.faults
         → D hands None (seen s) c → AfterWrite allowed (D hands) e s a d
-    wrote e s (write.Took n) c d same counts at = host_go c d s.cid s.dropped s.faults false same counts at
-    wrote e s write.Again c d same counts at = host_go c d s.cid s.dropped s.faults false same counts at
-    wrote e s write.Closed c d same counts at = host_go c d s.cid s.dropped s.faults false same counts at
-    wrote e s write.Failed c d same counts at = host_fault c d s.cid s.dropped s.faults _ same counts at
+    wrote e s (write.Took n) c d same counts at = host_go c d s.base s.cid s.dropped s.faults false same counts at
+    wrote e s write.Again c d same counts at = host_go c d s.base s.cid s.dropped s.faults false same counts at
+    wrote e s write.Closed c d same counts at = host_go c d s.base s.cid s.dropped s.faults false same counts at
+    wrote e s write.Failed c d same counts at = host_fault c d s.base s.cid s.dropped s.faults _ same counts at
 
     writes : Writes allowed (D hands)
     writes = record {
       writes = λ e s c is still at a d made. wrote e s a c d made.0.ring made.0.faults at;
-      shuts = λ e s c is out at a d made. host_go c d s.cid s.dropped s.faults false made.ring made.faults at;
+      shuts = λ e s c is out at a d made. host_go c d s.base s.cid s.dropped s.faults false made.ring made.faults at;
     }
 
     held : (s : DeviceState) (n : Next) (d : Situation) → D hands None (seen s) d → serving.AfterTake allowed (D hands) s n d
@@ -214,24 +216,24 @@ module _ (cid first : ℕ) where
 
     event_taken : (s : DeviceState) (n : Next) (d : Situation) → D hands None (seen s) d → AfterEvent allowed (D hands) s n d
     event_taken s (next.Chain chain) d at = λ a e made b f more.
-        ring_go (Return chain 4) b e f s.cid s.dropped s.faults tt more
-        (ring_go (Write chain 0 (little_bytes 4 0)) a d e s.cid s.dropped s.faults tt made at)
+        ring_go (Return chain 4) b e f s.base s.cid s.dropped s.faults tt more
+        (ring_go (Write chain 0 (little_bytes 4 0)) a d e s.base s.cid s.dropped s.faults tt made at)
     event_taken s _ d at = at
 
     have_read : (e : DeviceEntry) (chain : Chain) (s : DeviceState) (a : StreamRead) (payload : List ℕ) (c d : Situation) → d.ring ≡ c.ring
         → CountsFault (read_failed a) c.faults d.faults → D hands None (seen s) c → AfterRead allowed (D hands) e chain s a payload d
     have_read e chain s (read.Got k) payload c d same counts at =
-        written_tallies s.cid s.dropped s.faults chain (payload_header e.value.end (route_to_guest s.cid e.flow) (length payload)) payload d
-        (host_go c d s.cid s.dropped s.faults false same counts at)
-    have_read e chain s read.Again payload c d same counts at = host_go c d s.cid s.dropped s.faults false same counts at
-    have_read e chain s read.End payload c d same counts at = host_go c d s.cid s.dropped s.faults false same counts at
-    have_read e chain s read.Failed payload c d same counts at = host_fault c d s.cid s.dropped s.faults _ same counts at
+        written_tallies s.base s.cid s.dropped s.faults chain (payload_header e.value.end (route_to_guest s.cid e.flow) (length payload)) payload d
+        (host_go c d s.base s.cid s.dropped s.faults false same counts at)
+    have_read e chain s read.Again payload c d same counts at = host_go c d s.base s.cid s.dropped s.faults false same counts at
+    have_read e chain s read.End payload c d same counts at = host_go c d s.base s.cid s.dropped s.faults false same counts at
+    have_read e chain s read.Failed payload c d same counts at = host_fault c d s.base s.cid s.dropped s.faults _ same counts at
 
     fills : Fills allowed (D hands)
     fills = record {
-      event = λ s c at owed a d made. event_taken s a d (ring_go (Take Event) a c d s.cid s.dropped s.faults tt made at);
-      holds = λ s c at none a d made. held s a d (ring_go (Take Rx) a c d s.cid s.dropped s.faults tt made at);
-      puts = λ h chain s c at is. written_tallies s.cid s.dropped s.faults chain h [] c at;
+      event = λ s c at owed a d made. event_taken s a d (ring_go (Take Event) a c d s.base s.cid s.dropped s.faults tt made at);
+      holds = λ s c at none a d made. held s a d (ring_go (Take Rx) a c d s.base s.cid s.dropped s.faults tt made at);
+      puts = λ h chain s c at is. written_tallies s.base s.cid s.dropped s.faults chain h [] c at;
       reads = λ e chain s c is at held may a d made. have_read e chain s a.0 a.1 c d made.0.ring made.0.faults at;
       wants = λ e s c is at. at;
       pays = λ e what asked s c is owes at. at;
@@ -247,11 +249,12 @@ module _ (cid first : ℕ) where
       failed_so : CountsFailed first s.faults e.faults
       failed_so = rises false first s.faults d.faults e.faults reads.2 (rises false first s.faults c.faults d.faults takes.2 at.failed)
 
-      kept_so : Tallies s.cid s.dropped s.faults e
-      kept_so = record { drops = λ on l is. let so = came_so on l is in (so.0, λ all. (so.1 all).0); failed = failed_so }
+      kept_so : Tallies s.base s.cid s.dropped s.faults e
+      kept_so = record { based = at.based; drops = λ on l is. let so = came_so on l is in (so.0, λ all. (so.1 all).0); failed = failed_so }
 
-      dropped_so : (new : ℕ) → is_dropped Device s.cid (header_of bytes) ≡ true → Tallies s.cid new s.faults e
+      dropped_so : (new : ℕ) → is_dropped Device s.cid (header_of bytes) ≡ true → Tallies s.base s.cid new s.faults e
       dropped_so new is = record {
+        based = at.based;
         drops = λ on l there. let so = came_so on l there in (
           so.0,
           λ all. absurd (let no = (so.1 all).1 in let yes = ap (λ (n : ℕ). is_dropped Device n (header_of bytes)) (sym so.0) ∙ is in
@@ -262,7 +265,7 @@ module _ (cid first : ℕ) where
 
     -- No page was there, or the ring failed: no packet was got.
     none_taken : (s : DeviceState) (n : Next) (c d : Situation) → chain_of n ≡ None → Allows (Ring (Take Tx)) n c d → D hands None (seen s) c
-        → Tallies s.cid s.dropped s.faults d
+        → Tallies s.base s.cid s.dropped s.faults d
     none_taken s n c d none made at = grind (arith, common_steps)
 
     taken_by : (s : DeviceState) (n : Next) (c d : Situation) → Allows (Ring (Take Tx)) n c d → D hands None (seen s) c
@@ -282,11 +285,11 @@ module _ (cid first : ℕ) where
     takes : Takes allowed (D hands) (U hands)
     takes = record {
       takes = λ s c at a d made. taken_by s a c d made at;
-      returns = λ chain s c at a d made. ring_go (Return chain 0) a c d s.cid s.dropped s.faults tt made at;
+      returns = λ chain s c at a d made. ring_go (Return chain 0) a c d s.base s.cid s.dropped s.faults tt made at;
       ignores = λ chain h s c at. at;
       dials = λ chain h s c none place at a d made. dials chain h s a c d made.ring made.faults at;
       accepts = λ chain h e s c found is at. at;
-      delivers = λ chain h e s c found is at a d made. ring_go (Read chain HEADER_LEN h.len) a c d s.cid s.dropped s.faults tt made at;
+      delivers = λ chain h e s c found is at a d made. ring_go (Read chain HEADER_LEN h.len) a c d s.base s.cid s.dropped s.faults tt made at;
       hears = λ chain h e s c v found is other at. at;
     }
 
@@ -298,26 +301,26 @@ module _ (cid first : ℕ) where
       → d.ring ≡ c.ring → CountsFault (read_failed a) c.faults d.faults → D hands None (seen s) c
       → AfterByte allowed (Between D) h hands port s a bytes d
   byte_read h hands port s (read.Got k) bytes c d same counts at =
-      let now = host_go c d s.cid s.dropped s.faults false same counts at in record {
+      let now = host_go c d s.base s.cid s.dropped s.faults false same counts at in record {
         more = λ is. now;
-        ends = λ a e made. host_go d e s.cid s.dropped s.faults false made.ring made.faults now;
+        ends = λ a e made. host_go d e s.base s.cid s.dropped s.faults false made.ring made.faults now;
         refused = λ guest flow fault decided given full. now;
-        opens = λ guest flow decided given none a e made. host_go d e s.cid s.dropped s.faults false made.ring made.faults now;
+        opens = λ guest flow decided given none a e made. host_go d e s.base s.cid s.dropped s.faults false made.ring made.faults now;
       }
-  byte_read h hands port s read.Again bytes c d same counts at = host_go c d s.cid s.dropped s.faults false same counts at
-  byte_read h hands port s read.End bytes c d same counts at = host_go c d s.cid s.dropped s.faults false same counts at
-  byte_read h hands port s read.Failed bytes c d same counts at = host_fault c d s.cid s.dropped s.faults _ same counts at
+  byte_read h hands port s read.Again bytes c d same counts at = host_go c d s.base s.cid s.dropped s.faults false same counts at
+  byte_read h hands port s read.End bytes c d same counts at = host_go c d s.base s.cid s.dropped s.faults false same counts at
+  byte_read h hands port s read.Failed bytes c d same counts at = host_fault c d s.base s.cid s.dropped s.faults _ same counts at
 
   shakes : Shakes allowed (Between D)
   shakes = record {
-    drops = λ h hands port s c on at a d made. host_go c d s.cid s.dropped s.faults false made.ring made.faults at;
+    drops = λ h hands port s c on at a d made. host_go c d s.base s.cid s.dropped s.faults false made.ring made.faults at;
     accepts = λ hands port s c at a d made. accepted_by hands port s a c d made.ring made.faults at;
     reads = λ h hands port s c on at a d made. byte_read h hands port s a.0 a.1 c d made.0.ring made.0.faults at;
   }
 
   pub turn_tallies : (size now : ℕ) (s : ProxyState) (a b : Situation) (x : ProxyState × Turn)
-      → Tallies s.device.cid s.device.dropped s.device.faults a → Runs (turn_of size now s) a x b
-      → Tallies x.0.device.cid x.0.device.dropped x.0.device.faults b
+      → Tallies s.device.base s.device.cid s.device.dropped s.device.faults a → Runs (turn_of size now s) a x b
+      → Tallies x.0.device.base x.0.device.cid x.0.device.dropped x.0.device.faults b
   turn_tallies size now s a b x at runs =
-      runs_end (λ (y : ProxyState × Turn) d. Tallies y.0.device.cid y.0.device.dropped y.0.device.faults d) (turn_of size now s) a b x
+      runs_end (λ (y : ProxyState × Turn) d. Tallies y.0.device.base y.0.device.cid y.0.device.dropped y.0.device.faults d) (turn_of size now s) a b x
       (keeps_turn allowed D shakes closes U takes writes fills size now s a at) runs

@@ -1,5 +1,5 @@
 -- What a run keeps of its device and its host, from when it began.
-use Rattle.std.specs.{Prelude.{◌≡◌, ◌≤◌, ℕ, true, false, [], Option, None}, List.All, Option.ForSome}
+use Rattle.std.specs.{Prelude.{◌≡◌, ◌≤◌, ℕ, true, false, List, [], Option, None}, List.All, Option.ForSome}
 use Rattle.laws_history.specs.declared.packet.Packet.{Packet}
 use Rattle.vs_limits.specs.declared.TheConstants.{FIRST_CID}
 use Rattle.vs_outside.specs.{Faults.one_more, Host.HostContents, Host.Stream, Host.is_waiting}
@@ -10,13 +10,14 @@ use Rattle.laws_device.specs.Carried.Streamed.{client_waits, seen_as}
 use Rattle.vs_proxy_parts.specs.State.{ProxyState}
 use Rattle.laws_proxy.specs.Honest.{IsProxyStreamed}
 
--- What a host was like then: what it exposed, and how many of its calls had failed.
+-- What it began with: the base path, what the host exposed then, and how many of its calls had failed.
 pub record Start : Type 0 where
+  pub base : List ℕ
   pub contents : Option HostContents
   pub faults : ℕ
 
-abbrev pub start_with : Option HostContents → ℕ → Start
-start_with contents faults = record { contents = contents; faults = faults }
+abbrev pub start_with : List ℕ → Option HostContents → ℕ → Start
+start_with base contents faults = record { base = base; contents = contents; faults = faults }
 
 -- The proxy labelled no stream; and one that waits to be accepted is a client's, of which nothing was taken and which was given nothing.
 abbrev pub IsUnlabelled : HostContents → Type 0
@@ -38,6 +39,7 @@ pub record CountsFailed (first counted failed : ℕ) : Type 0 where
 
 -- What holds of a proxy, its ring and its host that came from there.
 pub record IsBegun (start : Start) (s : ProxyState) (a : Situation) : Type 0 where
+  pub based : s.device.base ≡ start.base
   pub drops : DropsNone s a.ring
   pub streamed : ForSome start.contents IsUnlabelled → IsProxyStreamed FIRST_CID s a
   pub failed : CountsFailed start.faults s.device.faults a.faults

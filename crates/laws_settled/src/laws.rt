@@ -41,13 +41,13 @@ pub fn law_of_settled()
         → IsSettled d driver p device }
 {}
 
-/// A new proxy, with rings on which nothing passed, begins with the host as it is. A turn of a steady one leaves what it began with: it dropped
-/// nothing, as long as each packet that it got has the guest's CID and goes to the host (Virtio 1.2, section 5.10.6); its device counted a fault
+/// A new proxy, with rings on which nothing passed, begins with its base path and the host as it is. A turn of a steady one leaves what it began with: it
+/// keeps that path; it dropped nothing, as long as each packet that it got has the guest's CID and goes to the host (Virtio 1.2, section 5.10.6); its device counted a fault
 /// only where one more call of the host failed than at first; and the bytes of its connections are those that the host's streams took and gave,
 /// where none of these had a label at first. At rest it dropped nothing.
 pub fn law_of_begun()
     ensures new { (base : List ℕ) (a : Situation) (l : EndLog) → a.ring.log ≡ Some l → l.entries ≡ []
-        → IsBegun (start_with a.host a.faults) (new_proxy FIRST_CID base) a }
+        → IsBegun (start_with base a.host a.faults) (new_proxy FIRST_CID base) a }
     ensures turn { (size now : ℕ) (s : ProxyState) (a b : Situation) (x : ProxyState × Turn) → IsSteady s a → Runs (turn_of size now s) a x b
         → (start : Start) → IsBegun start s a → IsBegun start x.0 b }
     ensures rest { (d : DriverState) (driver : Sight) (p : ProxyState) (device : DeviceSight) → IsSettled d driver p device

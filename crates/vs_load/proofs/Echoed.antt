@@ -81,10 +81,10 @@ came_back script g opened log h echo right =
     (opened_all (length script) g.entries) right
 
 -- A run over such a host is right, so all came back.
-pub all_came_back : (port : ℕ) (script : RunScript) (start : Start) (g : GuestsState) (s : SideState) (met : Met) (first h : HostContents) (faults : ℕ)
-    → HasRun port script start g s met → start ≡ start_with (Some first) faults → IsUnlabelled first → s.contents ≡ Some h → All IsEcho h.streams
+pub all_came_back : (port : ℕ) (script : RunScript) (start : Start) (g : GuestsState) (s : SideState) (met : Met) (base : List ℕ) (first h : HostContents) (faults : ℕ)
+    → HasRun port script start g s met → start ≡ start_with base (Some first) faults → IsUnlabelled first → s.contents ≡ Some h → All IsEcho h.streams
     → AllCameBack script g
-all_came_back port script start g s met first h faults run began unlabelled shows echo =
+all_came_back port script start g s met base first h faults run began unlabelled shows echo =
     let from : ForSome start.contents IsUnlabelled =
     subst (λ (x : Start). ForSome x.contents IsUnlabelled) (sym began) (λ c is. subst IsUnlabelled (same_Some first c is) unlabelled) in
     let right = run.right from h shows in

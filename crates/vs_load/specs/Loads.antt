@@ -1,5 +1,5 @@
 -- What a load ends in.
-use Rattle.std.specs.{List.All, Prelude.{◌≡◌, ℕ, false, List, [], length, Option, Some}}
+use Rattle.std.specs.{List.All, Prelude.{◌≡◌, ℕ, false, List, [], codes, length, Option, Some}}
 use Rattle.vs_limits.specs.declared.TheConstants.{FIRST_PORT}
 use Rattle.vs_outside.specs.Host.{HostContents}
 use Rattle.vs_ring_shared.specs.declared.counters.Met.{Met}
@@ -24,6 +24,10 @@ pub record IsOver (conns : ℕ) (script : RunScript) (start : Start) (contents :
   pub ran : HasRun FIRST_PORT script start guests side met
   pub is : line ≡ load_line conns script guests.entries guests.bytes
 
+-- The base path of its host.
+abbrev pub load_base : List ℕ
+load_base = codes "v.sock"
+
 -- The load was over, with a host that had no stream when it began, and of which no call had failed, and that found memory for all that it was given.
 pub record IsLoaded (number conns bytes : ℕ) (line : List ℕ) : Type 0 where
   pub first : HostContents
@@ -31,4 +35,4 @@ pub record IsLoaded (number conns bytes : ℕ) (line : List ℕ) : Type 0 where
   pub host : HostContents
   pub faults : ℕ
   pub fed : host.starved ≡ false
-  pub over : IsOver conns (load_script number conns bytes) (start_with (Some first) 0) (Some host) faults line
+  pub over : IsOver conns (load_script number conns bytes) (start_with load_base (Some first) 0) (Some host) faults line

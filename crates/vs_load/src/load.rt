@@ -60,9 +60,9 @@ fn load_under<W: Threads + Wait + Sync, N: StartName + Send, C: Clock, G: Gate +
     requires right { AreRight N.script }
     requires rings { rings.table ≡ N.ring }
     requires ready { (ring : DeviceSight) (contents : Option HostContents) (faults : ℕ) → IsSilent ring
-        → IsReady (start_with contents faults) (record { proxy = proxy; ring = ring; contents = contents; faults = faults }) }
+        → IsReady (start_with N.start.base contents faults) (record { proxy = proxy; ring = ring; contents = contents; faults = faults }) }
     requires first { N.first ≡ FIRST_PORT }
-    requires start { N.start ≡ start_with (Some host.old.contents) host.old.faults }
+    requires start { N.start ≡ start_with N.start.base (Some host.old.contents) host.old.faults }
     requires unlabelled { IsUnlabelled host.old.contents }
     ensures { IfOk result (λ line. IsOver conns N.script N.start (Some host.new.contents) host.new.faults (string_bytes line)) }
 {

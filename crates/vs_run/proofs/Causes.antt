@@ -200,9 +200,9 @@ says_two base port idle old new r text (statuses.Refused e h) two is = absurd (o
 says_two base port idle old new r text (statuses.NoMemory e h) two is = absurd (omega (arith, e, two))
 
 -- what holds of the script of a run
-abbrev pub ran_in : ℕ → ℕ → Lent → Lent → ℕ → Result Saying Refused → Type 0
-ran_in idle first old new r =
-    EndsRun idle first old.host new.host old.host_faults new.host_faults old.out new.out old.sink_faults new.sink_faults r
+abbrev pub ran_in : List ℕ → ℕ → ℕ → Lent → Lent → ℕ → Result Saying Refused → Type 0
+ran_in base idle first old new r =
+    EndsRun base idle first old.host new.host old.host_faults new.host_faults old.out new.out old.sink_faults new.sink_faults r
 
 pub no_script_at_2 : (command : Option words.Command) (old new : Lent) (r : ℕ) (text : List ℕ) → Does command old new r → r ≡ 2 → old.source ≡ Some text
     → IsNoScript command text
@@ -214,9 +214,9 @@ no_script_at_2 (Some (words.Play kind queue first)) old new r text h two is =
     answer_refused script_of.Play (λ said. (play_answer queue first said).lines) (λ said. (play_answer queue first said).status) text old.source_faults new.source_faults
     old.out new.out old.sink_faults new.sink_faults r old.source is (play_never queue first) h.0 two
 no_script_at_2 (Some (words.Run base queue idle first)) old new r text h two is =
-    refused_at_2 script_of.Run (KeepsHost old new) (ran_in idle first old new r) text old.source_faults new.source_faults old.out new.out
+    refused_at_2 script_of.Run (KeepsHost old new) (ran_in base idle first old new r) text old.source_faults new.source_faults old.out new.out
     old.sink_faults new.sink_faults r old.source is
-    (run_two old.out new.out old.sink_faults new.sink_faults r idle first old.host new.host old.host_faults new.host_faults) h two
+    (run_two old.out new.out old.sink_faults new.sink_faults r base idle first old.host new.host old.host_faults new.host_faults) h two
 no_script_at_2 (Some words.Hostile) old new r text h two is =
     answer_refused script_of.Hostile (λ said. (hostile_answer said).lines) (λ said. (hostile_answer said).status) text old.source_faults new.source_faults
     old.out new.out old.sink_faults new.sink_faults r old.source is hostile_never h.0 two
@@ -249,30 +249,30 @@ device_failed command old new r does is seven text told =
 module _ (command : Option words.Command) (old new : Lent) (r : ℕ) (base : List ℕ) (queue idle first : ℕ) (text : List ℕ)
     (is : command ≡ Some (words.Run base queue idle first)) (does : Does command old new r) (few : old.source_faults < 2 ^ 64 - 1)
     (same : new.source_faults ≡ old.source_faults) (source : old.source ≡ Some text) where
-  told_run : ran_in idle first old new r (parse_of script_of.Run text)
+  told_run : ran_in base idle first old new r (parse_of script_of.Run text)
       ⊎ (KeepsHost old new × EndsAs old.out new.out old.sink_faults new.sink_faults no_memory_text 9 r)
   told_run =
-      told script_of.Run (KeepsHost old new) (ran_in idle first old new r) text old.source_faults new.source_faults old.out new.out old.sink_faults
+      told script_of.Run (KeepsHost old new) (ran_in base idle first old new r) text old.source_faults new.source_faults old.out new.out old.sink_faults
       new.sink_faults r old.source source (subst (λ k. Does k old new r) is does) few same
 
   pub run_written : (apps : RunScript) → parse_of script_of.Run text ≡ Ok (Runs apps)
-      → EndsOver idle first apps old.host new.host old.host_faults new.host_faults old.out new.out old.sink_faults new.sink_faults r
+      → EndsOver base idle first apps old.host new.host old.host_faults new.host_faults old.out new.out old.sink_faults new.sink_faults r
   run_written apps parsed = go told_run
     where
-      go : ran_in idle first old new r (parse_of script_of.Run text)
+      go : ran_in base idle first old new r (parse_of script_of.Run text)
           ⊎ (KeepsHost old new × EndsAs old.out new.out old.sink_faults new.sink_faults no_memory_text 9 r)
-          → EndsOver idle first apps old.host new.host old.host_faults new.host_faults old.out new.out old.sink_faults new.sink_faults r
-      go (inl h) = subst (ran_in idle first old new r) parsed h
+          → EndsOver base idle first apps old.host new.host old.host_faults new.host_faults old.out new.out old.sink_faults new.sink_faults r
+      go (inl h) = subst (ran_in base idle first old new r) parsed h
       go (inr h) = inr (inl h.1)
 
   pub run_refused : (e : Refused) → parse_of script_of.Run text ≡ Err e
       → EndsWith old.out new.out old.sink_faults new.sink_faults (refusal_text e) 2 r × KeepsHost old new
   run_refused e parsed = go told_run
     where
-      go : ran_in idle first old new r (parse_of script_of.Run text)
+      go : ran_in base idle first old new r (parse_of script_of.Run text)
           ⊎ (KeepsHost old new × EndsAs old.out new.out old.sink_faults new.sink_faults no_memory_text 9 r)
           → EndsWith old.out new.out old.sink_faults new.sink_faults (refusal_text e) 2 r × KeepsHost old new
-      go (inl h) = subst (ran_in idle first old new r) parsed h
+      go (inl h) = subst (ran_in base idle first old new r) parsed h
       go (inr h) = (inr h.1, h.0)
 
 -- a script that wasn't read

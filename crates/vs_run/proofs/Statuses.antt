@@ -122,25 +122,25 @@ module _ (command : Option words.Command) (old new : Lent) (r : ℕ) where
   hostile_status is (Runs apps) e = Done e
   hostile_status is (Attacks lines) e = failed_status is _ e
 
-  over_cause : uses_host command ≡ true → (idle first : ℕ) (apps : RunScript)
-      → EndsOver idle first apps old.host new.host old.host_faults new.host_faults old.out new.out old.sink_faults new.sink_faults r → Cause command old new r
-  over_cause host idle first apps (inl (guests, side, met, told, faults, ran, h)) =
+  over_cause : uses_host command ≡ true → (base : List ℕ) (idle first : ℕ) (apps : RunScript)
+      → EndsOver base idle first apps old.host new.host old.host_faults new.host_faults old.out new.out old.sink_faults new.sink_faults r → Cause command old new r
+  over_cause host base idle first apps (inl (guests, side, met, told, faults, ran, h)) =
       as_cause (joined (texts_of idle apps guests side.proxy)) (run_status apps guests.apps guests.entries)
       (λ e. own (run_status apps guests.apps guests.entries) e (run_zero_or_five apps guests.apps guests.entries)) h
     where
       own : (n : ℕ) → r ≡ n → (n ≡ 0) ⊎ (n ≡ 5) → Cause command old new r
       own n e (inl done) = Done (e ∙ done)
       own n e (inr five) = Waited (e ∙ five) host
-  over_cause host idle first apps (inr (inl h)) = as_cause no_memory_text 9 (λ e. OutOfMemory e) h
-  over_cause host idle first apps (inr (inr h)) = as_cause host_fault_text 6 (λ e. HostFault e h.0) h.1
+  over_cause host base idle first apps (inr (inl h)) = as_cause no_memory_text 9 (λ e. OutOfMemory e) h
+  over_cause host base idle first apps (inr (inr h)) = as_cause host_fault_text 6 (λ e. HostFault e h.0) h.1
 
-  run_cause : uses_host command ≡ true → (idle first : ℕ) (p : Result Saying Refused)
-      → EndsRun idle first old.host new.host old.host_faults new.host_faults old.out new.out old.sink_faults new.sink_faults r p
+  run_cause : uses_host command ≡ true → (base : List ℕ) (idle first : ℕ) (p : Result Saying Refused)
+      → EndsRun base idle first old.host new.host old.host_faults new.host_faults old.out new.out old.sink_faults new.sink_faults r p
       → Cause command old new r
-  run_cause host idle first (Ok (Runs apps)) h = over_cause host idle first apps h
-  run_cause host idle first (Ok (Plays lines)) h = with_cause [] 0 (λ e. Done e) h.0
-  run_cause host idle first (Ok (Attacks lines)) h = with_cause [] 0 (λ e. Done e) h.0
-  run_cause host idle first (Err e) h = with_cause (refusal_text e) 2 (λ same. BadScript same) h.0
+  run_cause host base idle first (Ok (Runs apps)) h = over_cause host base idle first apps h
+  run_cause host base idle first (Ok (Plays lines)) h = with_cause [] 0 (λ e. Done e) h.0
+  run_cause host base idle first (Ok (Attacks lines)) h = with_cause [] 0 (λ e. Done e) h.0
+  run_cause host base idle first (Err e) h = with_cause (refusal_text e) 2 (λ same. BadScript same) h.0
 
   load_cause : (number conns bytes : ℕ) → EndsLoad number conns bytes old.out new.out old.sink_faults new.sink_faults r
       → Cause command old new r
@@ -164,8 +164,8 @@ cause (Some (words.Play kind queue first)) old new r h =
     (play_status (Some (words.Play kind queue first)) old new r queue first) script_of.Play h.0
 cause (Some (words.Run base queue idle first)) old new r h =
     script_cause (Some (words.Run base queue idle first)) old new r script_of.Run (KeepsHost old new)
-    (EndsRun idle first old.host new.host old.host_faults new.host_faults old.out new.out old.sink_faults new.sink_faults r)
-    (run_cause (Some (words.Run base queue idle first)) old new r refl idle first) h
+    (EndsRun base idle first old.host new.host old.host_faults new.host_faults old.out new.out old.sink_faults new.sink_faults r)
+    (run_cause (Some (words.Run base queue idle first)) old new r refl base idle first) h
 cause (Some words.Hostile) old new r h =
     answering_cause (Some words.Hostile) old new r (λ said. (hostile_answer said).lines) (λ said. (hostile_answer said).status)
     (hostile_status (Some words.Hostile) old new r refl) script_of.Hostile h.0

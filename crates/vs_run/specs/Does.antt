@@ -66,7 +66,7 @@ Does (Some (Play kind queue first)) old new result =
     EndsAnswering script_of.Play (λ said. (play_answer queue first said).lines) (λ said. (play_answer queue first said).status) old.source
     old.source_faults new.source_faults old.out new.out old.sink_faults new.sink_faults result × KeepsHost old new
 Does (Some (Run base queue idle first)) old new result =
-    EndsScript script_of.Run (KeepsHost old new) (EndsRun idle first old.host new.host old.host_faults new.host_faults old.out new.out old.sink_faults
+    EndsScript script_of.Run (KeepsHost old new) (EndsRun base idle first old.host new.host old.host_faults new.host_faults old.out new.out old.sink_faults
     new.sink_faults result) old.source old.source_faults new.source_faults old.out new.out old.sink_faults new.sink_faults result
 Does (Some Hostile) old new result =
     EndsAnswering script_of.Hostile (λ said. (hostile_answer said).lines) (λ said. (hostile_answer said).status) old.source

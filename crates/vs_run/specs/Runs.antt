@@ -20,25 +20,25 @@ IsRight _ = Unit {0}
 abbrev pub IsUntouched : Option HostContents → Option HostContents → ℕ → ℕ → Type 0
 IsUntouched host host' faults faults' = (host' ≡ host) × (faults' ≡ faults)
 
--- How the apps of a script end, of a guest with this first port: a run was over, and its report was written, with its status, which is right where the
--- host exposed its streams and none had a label; or memory ran out, and `no memory` was written, and nothing before; or the host didn't start, and `host
--- fault` was written.
-abbrev pub EndsOver : ℕ → ℕ → RunScript → Option HostContents → Option HostContents → ℕ → ℕ → Option (List ℕ) → Option (List ℕ) → ℕ → ℕ → ℕ → Type 0
-EndsOver idle first script host host' failed failed' out out' faults faults' result =
-    IsOver first script (start_with host failed) host' failed' (λ g p. EndsAs out out' faults faults' (joined (texts_of idle script g p)) (run_status script g.apps g.entries)
+-- How the apps of a script end, under this base path, of a guest with this first port: a run was over, and its report was written, with its
+-- status, which is right, and the run complete under that path, where the host exposed its streams and none had a label; or memory ran out, and
+-- `no memory` was written, and nothing before; or the host didn't start, and `host fault` was written.
+abbrev pub EndsOver : List ℕ → ℕ → ℕ → RunScript → Option HostContents → Option HostContents → ℕ → ℕ → Option (List ℕ) → Option (List ℕ) → ℕ → ℕ → ℕ → Type 0
+EndsOver base idle first script host host' failed failed' out out' faults faults' result =
+    IsOver first script (start_with base host failed) host' failed' (λ g p. EndsAs out out' faults faults' (joined (texts_of idle script g p)) (run_status script g.apps g.entries)
     result)
     ⊎ EndsAs out out' faults faults' no_memory_text 9 result
     ⊎ (CountsFault true failed failed' × EndsAs out out' faults faults' host_fault_text 6 result)
 
 -- How a run ends that has read its script: as the apps do, or as the script is refused, before the host was touched. A script of another command
 -- has no lines.
-abbrev pub EndsRun : ℕ → ℕ → Option HostContents → Option HostContents → ℕ → ℕ → Option (List ℕ) → Option (List ℕ) → ℕ → ℕ → ℕ → Result Saying Refused →
+abbrev pub EndsRun : List ℕ → ℕ → ℕ → Option HostContents → Option HostContents → ℕ → ℕ → Option (List ℕ) → Option (List ℕ) → ℕ → ℕ → ℕ → Result Saying Refused →
     Type 0
-EndsRun idle first host host' failed failed' out out' faults faults' result (Ok (Runs apps)) =
-    EndsOver idle first apps host host' failed failed' out out' faults faults' result
-EndsRun idle first host host' failed failed' out out' faults faults' result (Ok said) =
+EndsRun base idle first host host' failed failed' out out' faults faults' result (Ok (Runs apps)) =
+    EndsOver base idle first apps host host' failed failed' out out' faults faults' result
+EndsRun base idle first host host' failed failed' out out' faults faults' result (Ok said) =
     EndsWith out out' faults faults' [] 0 result × IsUntouched host host' failed failed'
-EndsRun idle first host host' failed failed' out out' faults faults' result (Err r) =
+EndsRun base idle first host host' failed failed' out out' faults faults' result (Err r) =
     EndsWith out out' faults faults' (refusal_text r) 2 result × IsUntouched host host' failed failed'
 
 -- How a load ends: its line was written, and the status is 0; or memory ran out, and `no memory` was written.

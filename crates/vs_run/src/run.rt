@@ -44,7 +44,7 @@ pub fn run_script<
     requires queue { IsQueueSize queue }
     requires first { IsFirst first }
     ensures { EndsScript command.Run (IsUntouched (H.contents host.old) (H.contents host.new) (H.faults host.old) (H.faults host.new))
-        (EndsRun idle first (H.contents host.old) (H.contents host.new) (H.faults host.old) (H.faults host.new)
+        (EndsRun base.now idle first (H.contents host.old) (H.contents host.new) (H.faults host.old) (H.faults host.new)
         (K.contents out.old) (K.contents out.new) (K.faults out.old) (K.faults out.new) result)
         (S.contents script.old) (S.faults script.old) (S.faults script.new)
         (K.contents out.old) (K.contents out.new) (K.faults out.old) (K.faults out.new) result }
@@ -74,7 +74,7 @@ fn run_bytes<W: Threads + Wait + Sync, H: HostNet, C: Clock, G: Gate + Send + Dr
     requires base { IsBase base.now }
     requires queue { IsQueueSize queue }
     requires first { IsFirst first }
-    ensures { EndsRun idle first (H.contents host.old) (H.contents host.new) (H.faults host.old) (H.faults host.new)
+    ensures { EndsRun base.now idle first (H.contents host.old) (H.contents host.new) (H.faults host.old) (H.faults host.new)
         (K.contents out.old) (K.contents out.new) (K.faults out.old) (K.faults out.new) result (parse_of command.Run bytes.now) }
 {
     law_of_scripts();
@@ -104,7 +104,7 @@ fn run_parsed<W: Threads + Wait + Sync, H: HostNet, C: Clock, G: Gate + Send + D
     requires queue { IsQueueSize queue }
     requires first { IsFirst first }
     requires right { IsRight (script_view script) }
-    ensures { EndsRun idle first (H.contents host.old) (H.contents host.new) (H.faults host.old) (H.faults host.new)
+    ensures { EndsRun base.now idle first (H.contents host.old) (H.contents host.new) (H.faults host.old) (H.faults host.new)
         (K.contents out.old) (K.contents out.new) (K.faults out.old) (K.faults out.new) result (Ok (script_view script)) }
 {
     match script {
@@ -134,7 +134,7 @@ fn run_apps<W: Threads + Wait + Sync, H: HostNet, C: Clock, G: Gate + Send + Dro
     requires queue { IsQueueSize queue }
     requires first { IsFirst first }
     requires right { AreRight (script_of apps.items) }
-    ensures { EndsOver idle first (script_of apps.items) (H.contents host.old) (H.contents host.new) (H.faults host.old) (H.faults host.new)
+    ensures { EndsOver base.now idle first (script_of apps.items) (H.contents host.old) (H.contents host.new) (H.faults host.old) (H.faults host.new)
         (K.contents out.old) (K.contents out.new) (K.faults out.old) (K.faults out.new) result }
 {
     let mut gates = gates;
@@ -171,7 +171,7 @@ fn run_gated<W: Threads + Wait + Sync, H: HostNet, C: Clock, G: Gate + Send + Dr
     requires queue { IsQueueSize queue }
     requires first { IsFirst first }
     requires right { AreRight (script_of apps.items) }
-    ensures { EndsOver idle first (script_of apps.items) (H.contents host.old) (H.contents host.new) (H.faults host.old) (H.faults host.new)
+    ensures { EndsOver base.now idle first (script_of apps.items) (H.contents host.old) (H.contents host.new) (H.faults host.old) (H.faults host.new)
         (K.contents out.old) (K.contents out.new) (K.faults out.old) (K.faults out.new) result }
 {
     match run(

@@ -109,7 +109,7 @@ pub fn vsock_main<
         → command_of (map string_bytes words.now) ≡ Some (Run base queue idle first)
         → S.faults script.old < 2 ^ 64 - 1 → S.faults script.new ≡ S.faults script.old
         → S.contents script.old ≡ Some text → parse_of script_of.Run text ≡ Ok (Runs apps)
-        → EndsOver idle first apps (H.contents host.old) (H.contents host.new) (H.faults host.old) (H.faults host.new)
+        → EndsOver base idle first apps (H.contents host.old) (H.contents host.new) (H.faults host.old) (H.faults host.new)
         (K.contents out.old) (K.contents out.new) (K.faults out.old) (K.faults out.new) result }
     // The line of a load is written, which reads no script.
     ensures loads { (number conns bytes queue : ℕ) → command_of (map string_bytes words.now) ≡ Some (Load number conns bytes queue)

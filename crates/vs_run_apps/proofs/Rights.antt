@@ -11,7 +11,7 @@ use Rattle.laws_apps.specs.{Ports.ArePortsFrom, Runs.{IsRunOf, Run}}
 use Rattle.laws_proxy.specs.Honest.{IsProxyStreamed}
 use Rattle.laws_settled.{specs.{Begun.{CountsFailed, IsBegun, IsUnlabelled, Start, start_with}, Settled.{IsSettled, IsSteady}}, proofs.Beginning.{dropped_none, new_begun}}
 use Rattle.laws_settled.proofs.Steady.{new_steady}
-use Rattle.laws_run.{specs.Dry.AreIdle, proofs.Holding.complete_report}
+use Rattle.laws_run.{specs.{Complete.IsCompleteRun, Dry.AreIdle}, proofs.Holding.complete_report}
 use Rattle.vs_apps.specs.Guests.{GuestsState, run_in}
 use Rattle.vs_settle.specs.Rounds.{LastRound}
 use Rattle.vs_report.specs.declared.giving.GiveError.{GiveError}
@@ -47,7 +47,8 @@ module _ (script : RunScript) (start : Start) (g : GuestsState) (s : SideState) 
       (ap (λ (x : GuestsState). x.driver) last.ends) streams still in (
         told.0,
         told.1 (totals_of g s.proxy) start.faults s.faults refl refl (dropped_none g.driver g.end s.proxy s.ring rest begun.drops) begun.failed.more,
-        told.2 (totals_of g s.proxy) refl refl refl,
+        subst (λ (path : List ℕ). IsCompleteRun script g.apps g.entries g.bytes (totals_of g s.proxy) path told.0 h) begun.based
+            (told.2 (totals_of g s.proxy) refl refl refl),
         told.3,
       )
 
@@ -66,20 +67,25 @@ module _ (script : RunScript) (start : Start) (g : GuestsState) (s : SideState) 
     right = right_of run rest last idle steady begun;
   }
 
+-- A new proxy has the base path that it was given.
+pub based : {E : Type 0} (base : List ℕ) (r : Result ProxyState E) → IfOk r (λ p. p ≡ new_proxy FIRST_CID base) → IfOk r (λ p. p.device.base ≡ base)
+based base (Err e) is = tt
+based base (Ok p) is = ap (λ (p : ProxyState). p.device.base) is
+
 -- A new proxy over an end on which nothing passed may be turned.
 pub ready : {E : Type 0} (base : List ℕ) (r : Result ProxyState E) → IfOk r (λ p. p ≡ new_proxy FIRST_CID base)
     → IfOk r (λ p. (ring : DeviceSight) (contents : Option HostContents) (faults : ℕ) → IsSilent ring
-    → IsReady (start_with contents faults) (record { proxy = p; ring = ring; contents = contents; faults = faults }))
+    → IsReady (start_with base contents faults) (record { proxy = p; ring = ring; contents = contents; faults = faults }))
 ready base (Err e) is = tt
 ready base (Ok p) is = λ ring contents faults silent.
     let a : Situation = situation (device_contents ring) contents faults in
-    let now : IsReady (start_with contents faults) (record { proxy = new_proxy FIRST_CID base; ring = ring; contents = contents; faults = faults }) =
+    let now : IsReady (start_with base contents faults) (record { proxy = new_proxy FIRST_CID base; ring = ring; contents = contents; faults = faults }) =
     record {
       ring = λ still. record { chains = ap (λ (held : List Held). chains_of held) silent.held; rx = tt };
       steady = new_steady base a (device_log ring) refl silent.log silent.held;
       begun = new_begun base a (device_log ring) refl silent.log;
     } in
-    subst (λ (q : ProxyState). IsReady (start_with contents faults) (record { proxy = q; ring = ring; contents = contents; faults = faults })) (sym is) now
+    subst (λ (q : ProxyState). IsReady (start_with base contents faults) (record { proxy = q; ring = ring; contents = contents; faults = faults })) (sym is) now
 
 -- A host that is started has the streams that it had.
 still_unlabelled : (o n : Option HostContents) (P : HostContents → Type 0) → Exposes o n P after_start → ForSome o IsUnlabelled → ForSome n IsUnlabelled
@@ -87,30 +93,31 @@ still_unlabelled None n P exposes unlabelled h there = absurd (let no : ◌≡�
 still_unlabelled (Some c) n P exposes unlabelled h there =
     subst IsUnlabelled (same_Some (after_start c) h (sym exposes.1 ∙ there)) (unlabelled c refl)
 
-begun_before : (start now : Start) (g : GuestsState) (s : SideState) → (ForSome start.contents IsUnlabelled → ForSome now.contents IsUnlabelled)
+begun_before : (start now : Start) (g : GuestsState) (s : SideState) → now.base ≡ start.base → (ForSome start.contents IsUnlabelled → ForSome now.contents IsUnlabelled)
     → now.faults ≡ start.faults → IsBegun now s.proxy (around s) → IsBegun start s.proxy (around s)
-begun_before start now g s unlabelled same begun = record {
+begun_before start now g s path unlabelled same begun = record {
+  based = begun.based ∙ path;
   drops = begun.drops;
   streamed = λ none. begun.streamed (unlabelled none);
   failed = subst (λ (n : ℕ). CountsFailed n s.proxy.device.faults s.faults) same begun.failed;
 }
 
-module _ (o n : Option HostContents) (P : HostContents → Type 0) (k m : ℕ) (exposes : Exposes o n P after_start) (same : m ≡ k) (first : ℕ) (script : RunScript)
+module _ (base : List ℕ) (o n : Option HostContents) (P : HostContents → Type 0) (k m : ℕ) (exposes : Exposes o n P after_start) (same : m ≡ k) (first : ℕ) (script : RunScript)
     (contents : Option HostContents) (failed : ℕ) where
-  over_before : (Q : GuestsState → ProxyState → Type 0) → IsOver first script (start_with n m) contents failed Q → IsOver first script (start_with o k) contents failed Q
+  over_before : (Q : GuestsState → ProxyState → Type 0) → IsOver first script (start_with base n m) contents failed Q → IsOver first script (start_with base o k) contents failed Q
   over_before Q (g, s, met, shown, counted, run, rest) = (
     g,
     s,
     met,
     shown,
     counted,
-    has_run script (start_with o k) g s first met run.run run.ports run.rest run.last run.idle run.numbers run.steady
-        (begun_before (start_with o k) (start_with n m) g s (still_unlabelled o n P exposes) same run.begun),
+    has_run script (start_with base o k) g s first met run.run run.ports run.rest run.last run.idle run.numbers run.steady
+        (begun_before (start_with base o k) (start_with base n m) g s refl (still_unlabelled o n P exposes) same run.begun),
     rest,
   )
 
   pub reports_before : (idle : ℕ) (old new : Option (List ℕ)) (faults faults' : ℕ) (r : Result ℕ GiveError)
-      → Reports idle first script (start_with n m) contents failed old new faults faults' r → Reports idle first script (start_with o k) contents failed old new faults faults' r
+      → Reports idle first script (start_with base n m) contents failed old new faults faults' r → Reports idle first script (start_with base o k) contents failed old new faults faults' r
   reports_before idle old new faults faults' (Ok status) over = over_before _ over
   reports_before idle old new faults faults' (Err give.Sink) over = over_before _ over
   reports_before idle old new faults faults' (Err give.OutOfMemory) none = none

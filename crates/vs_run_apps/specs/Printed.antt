@@ -26,8 +26,8 @@ Gives idle script g p old new faults faults' (Err give.Sink) =
     EmitsSome old new (joined (texts_of idle script g p)) × CountsFault true faults faults'
 Gives idle script g p old new faults faults' (Err give.OutOfMemory) = (new ≡ old) × (faults' ≡ faults)
 
--- A run by a guest with this first port that began with this host was over, with a host that exposes this and of which so many calls failed, and P is so of both its sides. What it
--- reports is right, as `HasRun` says, where the host exposed its streams and none had a label.
+-- A run by a guest with this first port that began with this base path and host was over, with a host that exposes this and of which so many calls failed,
+-- and P is so of both its sides. What it reports is right, as `HasRun` says, where the host exposed its streams and none had a label.
 abbrev pub IsOver : ℕ → RunScript → Start → Option HostContents → ℕ → (GuestsState → ProxyState → Type 0) → Type 0
 IsOver first script start contents faults P =
     (g : GuestsState) × (s : SideState) × (met : Met) × (s.contents ≡ contents) × (s.faults ≡ faults) × HasRun first script start g s met × P g s.proxy

@@ -25,12 +25,13 @@ totals_of g p = record {
   broken = g.driver.broken;
 }
 
--- Where the host exposes its streams, none of which had a label when the run began, the report is right, and the run is complete.
+-- Where the host exposes its streams, none of which had a label when the run began, the report is right, and the run is complete, under the base path
+-- that it began with.
 abbrev pub HasRightReport : RunScript → Start → GuestsState → SideState → Type 0
 HasRightReport script start g s =
     ForSome start.contents IsUnlabelled → ForSome s.contents (λ h.
     (opened : ℕ → Connection) × IsRightReport script g.apps g.entries g.bytes (totals_of g s.proxy) opened g.end.log h start.faults s.faults
-    × IsCompleteRun script g.apps g.entries g.bytes (totals_of g s.proxy) s.proxy.device.base opened h
+    × IsCompleteRun script g.apps g.entries g.bytes (totals_of g s.proxy) start.base opened h
     × ArePlaceWaits script g.apps g.entries g.bytes opened h)
 
 -- The journal is that of a run of the script, whose connects gave the guest ports from the first on, one after another; both ends are at rest; in the

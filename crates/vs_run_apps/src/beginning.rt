@@ -40,8 +40,9 @@ pub fn new_guests<N: RunName>(
 /// bytes. The only error is want of memory.
 pub fn new_proxy(alloc: Global, base: &str) -> Result<Proxy, AllocError>
     requires base { (1 ≤ length base.now) × (length base.now ≤ BASE_MAX) }
+    ensures base { IfOk result (λ proxy. proxy.device.base ≡ base.now) }
     ensures ready { IfOk result (λ proxy. (ring : DeviceSight) (contents : Option HostContents) (faults : ℕ) → IsSilent ring
-        → IsReady (start_with contents faults) (record { proxy = proxy; ring = ring; contents = contents; faults = faults })) }
+        → IsReady (start_with base.now contents faults) (record { proxy = proxy; ring = ring; contents = contents; faults = faults })) }
 {
     Proxy::new(alloc, FIRST_CID, base)
 }

@@ -122,8 +122,8 @@ pub fn run_under<
     requires first { (FIRST_PORT ≤ first) × (first ≤ LAST_PORT) }
     requires own { first ≡ N.first }
     requires ready { (ring : DeviceSight) (contents : Option HostContents) (faults : ℕ) → IsSilent ring
-        → IsReady (start_with contents faults) (record { proxy = proxy; ring = ring; contents = contents; faults = faults }) }
-    requires start { N.start ≡ start_with (H.contents host.old) (H.faults host.old) }
+        → IsReady (start_with N.start.base contents faults) (record { proxy = proxy; ring = ring; contents = contents; faults = faults }) }
+    requires start { N.start ≡ start_with N.start.base (H.contents host.old) (H.faults host.old) }
     ensures ran { IfOk result (λ r. HasRun N.first N.script N.start r.guests
         (record { proxy = r.proxy; ring = r.ring; contents = H.contents host.new; faults = H.faults host.new }) r.met) }
 {

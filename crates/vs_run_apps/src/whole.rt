@@ -61,8 +61,8 @@ fn run_and_report<
     requires first { (FIRST_PORT ≤ first) × (first ≤ LAST_PORT) }
     requires own { first ≡ N.first }
     requires ready { (ring : DeviceSight) (contents : Option HostContents) (faults : ℕ) → IsSilent ring
-        → IsReady (start_with contents faults) (record { proxy = proxy; ring = ring; contents = contents; faults = faults }) }
-    requires start { N.start ≡ start_with (H.contents host.old) (H.faults host.old) }
+        → IsReady (start_with N.start.base contents faults) (record { proxy = proxy; ring = ring; contents = contents; faults = faults }) }
+    requires start { N.start ≡ start_with N.start.base (H.contents host.old) (H.faults host.old) }
     ensures { Reports idle N.first N.script N.start (H.contents host.new) (H.faults host.new) (K.contents out.old) (K.contents out.new) (K.faults out.old)
         (K.faults out.new) result }
 {
@@ -93,7 +93,7 @@ fn run_started<W: Threads + Wait + Sync, H: HostNet, C: Clock, G: Gate + Send + 
     requires queue { IsRingSize queue }
     requires first { (FIRST_PORT ≤ first) × (first ≤ LAST_PORT) }
     requires base { (1 ≤ length base.now) × (length base.now ≤ BASE_MAX) }
-    ensures { Reports idle first (script_of script.items) (start_with (H.contents host.old) (H.faults host.old)) (H.contents host.new) (H.faults host.new)
+    ensures { Reports idle first (script_of script.items) (start_with base.now (H.contents host.old) (H.faults host.old)) (H.contents host.new) (H.faults host.new)
         (K.contents out.old) (K.contents out.new) (K.faults out.old) (K.faults out.new) result }
 {
     let Ok(rings) = make(alloc, queue) else {
@@ -134,7 +134,7 @@ pub fn run<W: Threads + Wait + Sync, H: HostNet, C: Clock, G: Gate + Send + Drop
     requires queue { IsRingSize queue }
     requires first { (FIRST_PORT ≤ first) × (first ≤ LAST_PORT) }
     requires base { (1 ≤ length base.now) × (length base.now ≤ BASE_MAX) }
-    ensures { Answers idle first (script_of script.items) (start_with (H.contents host.old) (H.faults host.old)) (H.contents host.new) (H.faults host.new)
+    ensures { Answers idle first (script_of script.items) (start_with base.now (H.contents host.old) (H.faults host.old)) (H.contents host.new) (H.faults host.new)
         (K.contents out.old) (K.contents out.new) (K.faults out.old) (K.faults out.new) result }
 {
     match host.start(base) {

@@ -94,6 +94,7 @@ steady_hears s e d past host faults is =
 begun_log : (start : Start) (s : ProxyState) (c d : RingContents) (host : Option HostContents) (faults : ℕ) → d.log ≡ c.log → d.honest ≡ c.honest
     → IsBegun start s (situation c host faults) → IsBegun start s (situation d host faults)
 begun_log start s c d host faults log honest begun = record {
+  based = begun.based;
   drops = λ on l is. begun.drops (sym honest ∙ on) l (sym log ∙ is);
   streamed = λ unlabelled on l is. begun.streamed unlabelled (sym honest ∙ on) l (sym log ∙ is);
   failed = begun.failed;

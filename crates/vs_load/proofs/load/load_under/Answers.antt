@@ -12,7 +12,7 @@ line_of-requires g c =
       contents = Some c.run_under.new.host.contents;
       faults = c.run_under.new.host.faults;
     } in
-    all_came_back _ g.N.RunName.script g.N.StartName.start c.in-Ok.ran.guests side c.in-Ok.ran.met c.args.host.now.contents c.run_under.new.host.contents
+    all_came_back _ g.N.RunName.script g.N.StartName.start c.in-Ok.ran.guests side c.in-Ok.ran.met _ c.args.host.now.contents c.run_under.new.host.contents
     c.args.host.now.faults c.in-Ok.ensures.ran c.requires.start c.requires.unlabelled refl c.law_of_echoes.ensures
 
 pub returns-in-Ok : goal.returns-in-Ok
