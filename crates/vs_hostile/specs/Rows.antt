@@ -51,6 +51,10 @@ abbrev pub unknown_flow : List ℕ
 unknown_flow =
     codes "packet 20480 3 2 2000 52 0 1 7 0 65536 0 -\ndesc tx 0 20480 44 0 0\ngive tx 0 0\nindex tx 1\n"
 
+-- What it prints where the rx chain for that RST fails.
+abbrev pub failing_reply : List ℕ → Answer
+failing_reply failure = failing 6 failure
+
 -- A length that is changed after the device read it plays no part.
 abbrev pub length_changed : List ℕ
 length_changed =
