@@ -48,6 +48,7 @@ impl Device {
         &mut self,
         ring: &mut R,
         host: &mut H,
+        buffer: &mut [u8; PAYLOAD_MAX],
     ) -> Result<Filled, Failure>
         requires ring { IsItsRing (R.held ring.old) self.old }
         requires may { MayRun (fill_rx_of self.old) (situation (R.contents ring.old) (H.contents host.old) (H.faults host.old)) }
@@ -77,7 +78,7 @@ impl Device {
             over: false,
         };
         self.put_replies(ring, &mut fill);
-        self.serve(ring, host, &mut fill);
+        self.serve(ring, host, buffer, &mut fill);
         self.filled(fill)
     }
 
@@ -98,7 +99,13 @@ impl Device {
     }
 
     // Serves all connections, where chains are still there.
-    fn serve<R: DeviceRing, H: HostNet>(&mut self, ring: &mut R, host: &mut H, fill: &mut Fill)
+    fn serve<R: DeviceRing, H: HostNet>(
+        &mut self,
+        ring: &mut R,
+        host: &mut H,
+        buffer: &mut [u8; PAYLOAD_MAX],
+        fill: &mut Fill,
+    )
         requires ring { IsRingOf (R.held ring.old) self.old }
         requires few { fill.old.put ≤ DEVICE_REPLIES }
         requires none { fill.old.read ≡ 0 }
@@ -109,12 +116,18 @@ impl Device {
         ensures calls { Runs (serve_rest (filling_of self.old fill.old)) (situation (R.contents ring.old) (H.contents host.old) (H.faults host.old)) (filling_of self.new fill.new) (situation (R.contents ring.new) (H.contents host.new) (H.faults host.new)) }
     {
         if !fill.over {
-            self.serve_all(ring, host, fill);
+            self.serve_all(ring, host, buffer, fill);
         }
     }
 
     // Serves all connections, those after the slot that last put a packet first.
-    fn serve_all<R: DeviceRing, H: HostNet>(&mut self, ring: &mut R, host: &mut H, fill: &mut Fill)
+    fn serve_all<R: DeviceRing, H: HostNet>(
+        &mut self,
+        ring: &mut R,
+        host: &mut H,
+        buffer: &mut [u8; PAYLOAD_MAX],
+        fill: &mut Fill,
+    )
         requires ring { IsRingOf (R.held ring.old) self.old }
         requires few { fill.old.put ≤ DEVICE_REPLIES }
         requires none { fill.old.read ≡ 0 }
@@ -127,9 +140,8 @@ impl Device {
         let slots = self.slots.all();
         let first = first_from(self.last_put, slots.as_slice());
         let (others, above) = slots.as_slice().split_at(first);
-        let mut buffer = [0; PAYLOAD_MAX];
-        self.serve_part(ring, host, above, first, &mut buffer, fill);
-        self.serve_part(ring, host, others, 0, &mut buffer, fill);
+        self.serve_part(ring, host, above, first, buffer, fill);
+        self.serve_part(ring, host, others, 0, buffer, fill);
         self.watch_owed();
     }
 

@@ -14,6 +14,7 @@ use std::alloc::{AllocError, Global};
 use std::marker::Model;
 use vs_device::{Counters, Device};
 use vs_limits::ASSIGNED_FIRST;
+use vs_page::PAYLOAD_MAX;
 use vs_proxy_parts::handshakes::Handshakes;
 
 /// A proxy between the guest's socket device and the host's sockets (Firecracker's vsock documentation). The ring and the host are lent to
@@ -23,6 +24,8 @@ pub struct Proxy {
     pub(crate) device: Device,
     pub(crate) handshakes: Handshakes,
     pub(crate) next_port: u32,
+    // Room for the payload that a stream is read for.
+    pub(crate) buffer: [u8; PAYLOAD_MAX],
 }
 
 impl Model for Proxy {
@@ -67,6 +70,7 @@ impl Proxy {
             device: Device::new(alloc, cid, base)?,
             handshakes: Handshakes::new(alloc)?,
             next_port: port,
+            buffer: [0; PAYLOAD_MAX],
         })
     }
 

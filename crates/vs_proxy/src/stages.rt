@@ -165,7 +165,7 @@ impl Proxy {
         if self.has_failed() {
             return;
         }
-        let Ok(filled) = self.device.fill_rx(ring, host) else {
+        let Ok(filled) = self.device.fill_rx(ring, host, &mut self.buffer) else {
             return;
         };
         tally.put += filled.put;
