@@ -90,24 +90,13 @@ allows_by_peer role f log entry fair may =
     (allows_to (is_host f) (side_of role f) (whole_of role f log) entry fair
     (subst (λ h. AllowsNow (side_of role f) h entry) (sym is) may))
 
--- A plain RST between guests.
-plain_may : (side : Side) (h : History) (p : Packet) (host : Bool) → host ≡ false → IsFormed p → is_plain_rst p ≡ true
-    → AllowsTo host side h (Got p)
-plain_may side h p false other formed plain =
-    record { formed = formed; steadily = λ is. (let bad : true ≡ false = sym plain ∙ is in absurd cc) }
-plain_may side h p true other formed plain = absurd cc
-
 pub plain_puts : (side : Side) (h : History) (p : Packet) (host : Bool) → host ≡ false → IsFormed p → is_plain_rst p ≡ true
     → AllowsTo host side h (Put p)
-plain_puts side h p false other formed plain =
-    record { formed = formed; steadily = λ is. (let bad : true ≡ false = sym plain ∙ is in absurd cc) }
-plain_puts side h p true other formed plain = absurd cc
+plain_puts side h p host other formed plain = grind (arith, common_steps)
 
 pub stray_fair : (role : Role) (log : Log) (p : Packet) → IsFormed p → is_plain_rst p ≡ true → is_host (flow_got role p) ≡ false
     → IsFairLogByPeer role log → IsFairLogByPeer role (GotPacket p ∷ log)
-stray_fair role log p formed plain other fair =
-    let f = flow_got role p in
-    (one_got role log p).1 (fair, plain_may (side_of role f) (history_of role f log) p (is_host f) other formed plain)
+stray_fair role log p formed plain other fair = grind (arith, common_steps)
 
 -- Two logs.
 pub next_fair : (role : Role) (mine other : Log) (p : Packet) → IsFairLogByPeer role mine → IsFairLogByPeer (other_role role) other
