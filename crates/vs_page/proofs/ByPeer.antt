@@ -1,7 +1,7 @@
 -- Logs that are fair by the peer.
-use Rattle.std.proofs.{Common.{◌≡◌, ◌+◌, ◌≤◌, Bool, true, false, if◌then◌else◌, List, [], ◌∷◌, ◌++◌, ◌↔◌, refl, sym, ap, ◌∙◌, subst, arith}, lemmas.Grind.common_steps}
+use Rattle.std.proofs.{Common.{◌≡◌, ◌+◌, ◌≤◌, Bool, true, false, if◌then◌else◌, ◌∷◌, ◌↔◌, refl, sym, subst, arith}, lemmas.Grind.common_steps}
 use Rattle.vs_flow.specs.{Flow.{host_asks, is_host, same_flow}, declared.flow.Flow.Flow}
-use Rattle.laws_history.specs.{declared.packet.Packet.Packet, Again.{AllowsNow, IsFairAll, present}, Beside.{IsFairBeside, is_plain_rst}, History.{Entry, Got, HasGot, History, IsNext, Put, Side, gots, peer, puts}}
+use Rattle.laws_history.specs.{declared.packet.Packet.Packet, Again.{AllowsNow, IsFairAll, present}, Beside.{is_plain_rst}, History.{Entry, Got, HasGot, History, IsNext, Put, Side, gots, peer, puts}}
 use Rattle.laws_history.specs.Packets.{IsFormed, allowance, bytes, forwarded_by, is_request, is_rst, size}
 use Rattle.laws_history.proofs.{BesidePairs.{allows_beside, fair_beside, next_beside, within_got, within_put}, Now.{next, now}, TiedPairs.next_allowed}
 use Rattle.vs_page.specs.{Fair.{AllowsTo, IsFairByPeer, IsFairLog, IsFairLogByPeer, IsFairOn, IsFairTo}, Log.{HasGotAll, IsNextPacket, Log, Role, flow_got, flow_put, history_of}}
