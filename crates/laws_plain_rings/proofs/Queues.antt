@@ -2,11 +2,6 @@
 use Rattle.std.proofs.{Common.◌≡◌, Common.false, Common.arith, lemmas.Grind.common_steps}
 use Rattle.vs_ring_port.specs.{declared.queue.Queue.TheVariants.{Rx, Tx, Event}, Chains.same_queue, declared.queue.Queue.Queue}
 
--- what is so of each two queues that differ
-pub of_pairs : (P : Queue → Queue → Type 0) → P Rx Tx → P Rx Event → P Tx Rx → P Tx Event → P Event Rx → P Event Tx
-    → (q r : Queue) → same_queue q r ≡ false → P q r
-of_pairs P rt re tr te er et q r other = grind (arith, common_steps)
-
 -- what is so of one queue and of each other is so of all
 pub of_each : (P : Queue → Type 0) (queue : Queue) → P queue → ((q : Queue) → same_queue queue q ≡ false → P q) → (q : Queue) → P q
 of_each P queue here others q = grind (arith, common_steps)

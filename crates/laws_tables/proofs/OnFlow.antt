@@ -23,11 +23,6 @@ pub record IsFirst (side : Side) (h : History) (kind : Option ℕ) (reply_owed :
   pub kind_is : kind ≡ None
   pub none_owed : reply_owed ≡ false
 
--- Where a reply is owed no REQUEST may come.
-pub owed_stale : (role : Role) (side : Side) (h : History) (kind : Option ℕ) (ends : List ConnectionEnd)
-    → IsLeftOn role side h kind true ends → (ends ≡ []) × (is_fresh h ≡ false)
-owed_stale role side h kind ends left = grind (arith, common_steps)
-
 pub end_follows : (role : Role) (side : Side) (h : History) (kind : Option ℕ) (reply_owed : Bool) (ends : List ConnectionEnd)
     (e : ConnectionEnd)
     → IsLeftOn role side h kind reply_owed ends → ends ≡ e ∷ [] → is_new e ≡ false → IsOne side h kind reply_owed e

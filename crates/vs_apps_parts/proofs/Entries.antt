@@ -138,9 +138,6 @@ module _ (id : ℕ) (script : RunScript) (bytes : List ℕ) where
 abbrev Excerpts : Type 0
 Excerpts = ℕ → Option Excerpt
 
-pub summed_none : IsSummed 0 [] [] (λ id. None)
-summed_none = record { counts = refl; stands = tt; few = λ id. omega arith; exact = λ id. refl }
-
 -- A call other than a receive gives none.
 none_given : (id : ℕ) (bytes : List ℕ) (c : Called) → is_receive c ≡ false → given_in id bytes c ≡ []
 none_given id bytes (called.Recv other len from answer) other_call = absurd cc

@@ -46,14 +46,6 @@ pub watched_all : (w : Watch) (es : List DeviceEntry) (n : ℕ) → length es �
     → All (λ x. IsWatched w x.value) es
 watched_all w es n ends so_far = λ k d lt. so_far k d (omega arith) (omega arith)
 
-pub none_late : (w : Watch) (t : Table DeviceConnection) (now : ℕ) → now < w.due → AreWatched w t → All (λ e. is_timed_out now e.value ≡ false) t.entries
-none_late w t now early all =
-    All-weaker (λ (e : DeviceEntry). IsWatched w e.value) (λ (e : DeviceEntry). is_timed_out now e.value ≡ false) (λ e k. k.due now early) t.entries all
-
-pub none_to_write : (w : Watch) (t : Table DeviceConnection) → w.writes ≡ false → AreWatched w t → All (λ e. has_to_write e.value ≡ false) t.entries
-none_to_write w t none all =
-    All-weaker (λ (e : DeviceEntry). IsWatched w e.value) (λ (e : DeviceEntry). has_to_write e.value ≡ false) (λ e k. k.writes none) t.entries all
-
 pub watched_without : (w : Watch) (t : Table DeviceConnection) (slot : ℕ) → AreWatched w t → AreWatched w (without t slot)
 watched_without w t slot all = All-filter (λ (e : DeviceEntry). not (e.slot == slot)) (λ (e : DeviceEntry). IsWatched w e.value) t.entries all
 

@@ -12,13 +12,6 @@ use Rattle.vs_ring_plain.proofs.Calls.{reads_by, returns_by, takes_by, writes_by
 use Rattle.vs_hostile.specs.Whole.{change_numbers, hold_numbers, is_made, number_of_bool, number_of_queue, numbers, numbers_at, part, piece_numbers, shown_by, whole_contents}
 use Rattle.vs_hostile.specs.Whole.{whole_state}
 
--- After a call that a device makes the state is the next one.
-pub after_made : (call : DeviceCall) (d : DeviceState) → is_made call ≡ true
-    → plain_after call (whole_state d) ≡ whole_state (answer_to call d).1
-after_made call d made =
-    let F : Bool → PlainState = λ b. λ calls. λ next. cond b (whole_state (answer_to call d).1 calls next) (shown_by next d) in
-    ap F made
-
 moves : (call : DeviceCall) (answer : DeviceAnswer call) (P : Rings → Type 0) (f : Rings → Rings) (Q : EndLog → Type 0)
     (g : EndLog → EndLog) (old new : DeviceState) → is_made call ≡ true → answer_to call old ≡ (answer, new)
     → DeviceMoves call answer P f Q g (whole_contents old) (whole_contents new)

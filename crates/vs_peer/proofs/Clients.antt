@@ -74,11 +74,5 @@ unheard true l n h = cc
 unheard false true n h = cc
 unheard false false n h = refl
 
-append_other : {X : Type 0} (xs : List X) (y : X) (k : ℕ) → k ≢ length xs → slice_get (xs ++ y ∷ []) k ≡ slice_get xs k
-append_other [] y zero h = absurd (h refl)
-append_other [] y (suc k) h = refl
-append_other (x ∷ xs) y zero h = refl
-append_other (x ∷ xs) y (suc k) h = append_other xs y k (λ e. h (ap suc e))
-
 pub dial_failed : (flow : Flow) (c : HostContents) → SameStreams c (after_dial flow dialed.Failed c)
 dial_failed flow c other = stream_at-after_failed other c

@@ -113,18 +113,11 @@ module _ (stream port : ℕ) (t : Turning) where
   abbrev pub given : Option Flow
   given = next_flow port t.state.next_port t.state.device
 
-  pub may_turn_away : (c : Situation) → given ≡ None → MayRun (connecting stream port t) c → CanMake (CloseStream stream) c
-  may_turn_away c none may = (may_of CanMake Allows _ _ c (ap connect_on none) may).0
-
   pub turned_away : (u : Turning) (c m : Situation) → given ≡ None → Allows (CloseStream stream) tt c m → u ≡ record t { hands = t.hands + 1 } → Runs (connecting stream port t) c u m
   turned_away u c m none allowed end = leads_of Allows _ _ c m u (ap connect_on none) (tt, m, allowed, (sym end, refl))
 
   abbrev opened_by : DeviceState × Result ℕ TableFault → Turning
   opened_by r = record t { state = record (with_device r.0 t.state) { next_port = next_after t.state.next_port } }
-
-  pub may_let_in : (flow : Flow) (c : Situation) → given ≡ Some flow → MayRun (connecting stream port t) c → MayRun (open_of flow stream t.state.device) c
-  may_let_in flow c some may =
-      may_first CanMake Allows (open_of flow stream t.state.device) (λ x. Done (opened_by x)) c (may_of CanMake Allows _ _ c (ap connect_on some) may)
 
   pub let_in : (flow : Flow) (r : DeviceState × Result ℕ TableFault) (u : Turning) (c m : Situation) → given ≡ Some flow
       → Runs (open_of flow stream t.state.device) c r m → u ≡ opened_by r → Runs (connecting stream port t) c u m

@@ -52,9 +52,6 @@ pub same_seen : (g : Account → Account) → ((a : Account) → IsUnseen g a) �
     → ShowsAt o (option_map g a)
 same_seen g same o a shows = grind (arith, common_steps)
 
-pub delivers_same : (h : Option Header) (n : ℕ) (payload : List ℕ) (a : Account) → IsUnseen (delivering h n payload) a
-delivers_same h n payload a = grind (arith, common_steps)
-
 pub none_there : (y : Stream) (c : HostContents) → stream_at (length c.streams + 1) c ≡ None
 none_there y c = past_end y c
 
