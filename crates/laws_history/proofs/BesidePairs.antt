@@ -2,7 +2,7 @@
 use Rattle.std.proofs.Common.{◌≡◌, ◌+◌, ◌≤◌, Bool, true, false, cond, if◌then◌else◌, List, [], ◌∷◌, ◌++◌, refl, sym, ap, ◌∙◌, subst, subst₂, arith}
 use Rattle.std.proofs.lemmas.Grind.{common_steps}
 use Rattle.laws_history.specs.{declared.packet.Packet.Packet, Again.{AllowsNow, IsFairAll, MayPutNow, present}, Beside.{AllowsBeside, IsFairBeside, MayPutBeside, is_plain_rst, steadied, steady}}
-use Rattle.laws_history.specs.History.{Entry, Got, HasGot, History, IsFair, IsNext, Put, Side, gots, peer, puts}
+use Rattle.laws_history.specs.History.{Entry, Got, HasGot, History, IsNext, Put, Side, gots, peer, puts}
 use Rattle.laws_history.specs.Packets.{IsFormed, allowance, bytes, forwarded_by, is_request, is_rst, size}
 use Rattle.vs_wrap.specs.Wrap.{unwrap32}
 use Rattle.laws_history.proofs.{Fair.{BothSound, sound}, Now.{next, now}, Present.fair_once, Steady.{AllFormed, Alike, alike, may_steady, now_formed}, TiedPairs.next_allowed}
@@ -23,17 +23,11 @@ plain_other = grind (arith, common_steps)
 
 steady_put : (p : Packet) (h : History) (plain asks : Bool) → is_plain_rst p ≡ plain → is_request p ≡ asks
     → present (steadied h) ≡ steadied (present h) → present (steadied (Put p ∷ h)) ≡ steadied (present (Put p ∷ h))
-steady_put p h true true is e rest = (let bad : true ≡ false = sym e ∙ plain_other p is in absurd cc)
-steady_put p h true false is e rest = rw is (rw e (rw is rest))
-steady_put p h false true is e rest = rw is (rw e (rw is refl))
-steady_put p h false false is e rest = rw is (rw e (rw is (ap (λ (k : History). Put p ∷ k) rest)))
+steady_put x0 x1 x2 x3 x4 x5 x6 = grind (arith, common_steps)
 
 steady_got : (p : Packet) (h : History) (plain asks : Bool) → is_plain_rst p ≡ plain → is_request p ≡ asks
     → present (steadied h) ≡ steadied (present h) → present (steadied (Got p ∷ h)) ≡ steadied (present (Got p ∷ h))
-steady_got p h true true is e rest = (let bad : true ≡ false = sym e ∙ plain_other p is in absurd cc)
-steady_got p h true false is e rest = rw is (rw e (rw is rest))
-steady_got p h false true is e rest = rw is (rw e (rw is refl))
-steady_got p h false false is e rest = rw is (rw e (rw is (ap (λ (k : History). Got p ∷ k) rest)))
+steady_got x0 x1 x2 x3 x4 x5 x6 = grind (arith, common_steps)
 
 pub steady_present : (h : History) → present (steadied h) ≡ steadied (present h)
 steady_present [] = refl
@@ -157,18 +151,7 @@ next_beside side mine other p fair fair_other after got = record {
 
 -- Credit on the present connection.
 sound_same : (put got put' got' : List Packet) → Alike put put' → Alike got got' → BothSound put' got' → BothSound put got
-sound_same put got put' got' a b s = record {
-  out = record {
-    fits = omega (arith, s.out.fits, a.payload, b.forwarded, b.alloc);
-    forwarded = omega (arith, s.out.forwarded, a.forwarded, b.payload);
-    alloc = omega (arith, s.out.alloc, a.alloc);
-  };
-  back = record {
-    fits = omega (arith, s.back.fits, b.payload, a.forwarded, a.alloc);
-    forwarded = omega (arith, s.back.forwarded, b.forwarded, a.payload);
-    alloc = omega (arith, s.back.alloc, b.alloc);
-  };
-}
+sound_same put got put' got' a b s = grind (arith, common_steps)
 
 pub sound_beside : (side : Side) (h : History) → IsFairBeside side h → BothSound (puts (present h)) (gots (present h))
 sound_beside side h fair =

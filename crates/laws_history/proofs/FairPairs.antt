@@ -1,16 +1,12 @@
 -- What a fair history says of the connections on its pair.
 use Rattle.std.proofs.{Common.{◌≡◌, ℕ, ◌+◌, ◌-◌, ◌≤◌, Bool, true, false, nat_le, List, [], ◌∷◌, refl, sym, subst, arith}, lemmas.Grind.common_steps}
-use Rattle.laws_history.specs.{declared.packet.Packet.Packet, Packets.{has, is_clean_rst, is_request}, Again.{IsFairAll, MayPutNext, after, count, now_got, now_put, since_request}}
+use Rattle.laws_history.specs.{declared.packet.Packet.Packet, Packets.{has, is_clean_rst, is_request}, Again.{IsFairAll, MayPutNext, after, count, now_got, since_request}}
 use Rattle.laws_history.{specs.History.{Answerer, Asker, Got, History, Put, gots, puts}, proofs.{Fair.{AllRise, put_rises}, Lists.{after_none, after_quiet, count_next}}}
 use Rattle.laws_history.proofs.Lists.{has_counts}
 
 -- The answerer puts nothing but on an open connection.
 pub answers_only : (put got : List Packet) (p : Packet) → MayPutNext Answerer put got p → is_request p ≡ false
-answers_only put got p may = by (is_request p) refl
-  where
-    by : (b : Bool) → is_request p ≡ b → is_request p ≡ false
-    by false is = is
-    by true is = let t = (may.opens is).first.timely in absurd (grind (arith, common_steps, is, t))
+answers_only put got p may = grind (arith, common_steps)
 
 -- What the present connection has, all connections have.
 pub since_has : (test : Packet → Bool) (ps : List Packet) → has test (since_request ps) ≡ true → has test ps ≡ true
@@ -62,9 +58,7 @@ rises_asker (Got p ∷ h) fair = rises_asker h fair.1
 answerer_put : (b : Bool) (put got : List Packet) (p : Packet) → nat_le (count is_request got - 1) (count is_clean_rst put) ≡ b
     → MayPutNext Answerer put got p
     → AllRise (after (count is_request got - 1) put) → AllRise (after (count is_request got - 1) (p ∷ put))
-answerer_put true put got p e may before =
-    rw e (put_rises Answerer (now_put Answerer put got) (now_got Answerer put got) p (may.goes_on (answers_only put got p may)), before)
-answerer_put false put got p e may before = rw e tt
+answerer_put x0 x1 x2 x3 x4 x5 x6 = grind (arith, common_steps)
 
 answerer_got : (b : Bool) (h : History) (p : Packet) → is_request p ≡ b → IsFairAll Answerer h
     → AllRise (after (count is_request (gots h) - 1) (puts h))

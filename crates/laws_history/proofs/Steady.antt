@@ -1,8 +1,8 @@
 -- What packets say without the plain RSTs among them.
-use Rattle.std.proofs.{Common.{◌≡◌, ℕ, zero, suc, ◌+◌, ◌≤◌, Bool, true, false, ◌||◌, if◌then◌else◌, List, [], ◌∷◌, ◌++◌, refl, sym, ap, ◌∙◌, subst, subst₂, arith, ◌⊎◌, inl, inr}, lemmas.Grind.common_steps}
+use Rattle.std.proofs.{Common.{◌≡◌, Bool, true, false, ◌||◌, if◌then◌else◌, List, [], ◌∷◌, refl, sym, ap, ◌∙◌, arith, ◌⊎◌}, lemmas.Grind.common_steps}
 use Rattle.vs_header.specs.Op.{op_named}
-use Rattle.laws_history.specs.{declared.packet.Packet.Packet, Again.{IsClean, MayOpenNow, MayPutNow}, Beside.{is_plain_rst, steady}, History.{Answerer, Asker, IsHonest, IsTimely, MayPut, Side, is_begun, of_asker}}
-use Rattle.laws_history.specs.Packets.{IsFormed, asked_kind, bytes, has, has_both, is_clean_rst, is_request, is_response, is_rst, is_rw, message_of, shuts_receive, shuts_send, size, tells, told_alloc, told_forwarded}
+use Rattle.laws_history.specs.{declared.packet.Packet.Packet, Again.{IsClean, MayPutNow}, Beside.{is_plain_rst, steady}, History.{Answerer, Asker, IsHonest, IsTimely, MayPut, Side, is_begun, of_asker}}
+use Rattle.laws_history.specs.Packets.{IsFormed, asked_kind, bytes, has, is_clean_rst, is_request, is_response, is_rst, message_of, shuts_receive, shuts_send, size, tells, told_alloc, told_forwarded}
 
 -- A test that no plain RST passes says the same without them.
 has_step : (test : Packet → Bool) (p : Packet) (ps : List Packet) (b : Bool) → is_plain_rst p ≡ b → (b ≡ true → test p ≡ false)
@@ -117,17 +117,7 @@ alike ps formed = record {
 
 -- What may be put by these rules may be put by the same without plain RSTs.
 honest_alike : (put got put' got' : List Packet) (p : Packet) → Alike put put' → Alike got got' → IsHonest put got p → IsHonest put' got' p
-honest_alike put got put' got' p a b h = record {
-  fits = omega (arith, h.fits, a.payload, b.forwarded, b.alloc);
-  message = λ is. rw a.message (h.message is);
-  forwarded_got = rw a.forwarded (rw b.payload h.forwarded_got);
-  alloc_first = λ none. h.alloc_first (sym a.credit ∙ none);
-  alloc_rises = rw a.alloc h.alloc_rises;
-  alloc_most = h.alloc_most;
-  not_shut = λ is. a.send ∙ h.not_shut is;
-  not_closed = rw (a.receive, a.send) h.not_closed;
-  not_reset = a.reset h.not_reset;
-}
+honest_alike put got put' got' p a b h = grind (arith, common_steps)
 
 begun_alike : (side : Side) (put got put' got' : List Packet) → Alike put put' → Alike got got' → is_begun side put' got' ≡ is_begun side put got
 begun_alike Asker put got put' got' a b = a.request
@@ -144,21 +134,11 @@ timely_alike = grind (arith, common_steps)
 
 may_alike : (side : Side) (put got put' got' : List Packet) (p : Packet) → Alike put put' → Alike got got' → MayPut side put got p
     → MayPut side put' got' p
-may_alike side put got put' got' p a b m = record {
-  formed = m.formed;
-  timely = timely_alike side put got put' got' p a b m.timely;
-  begun = λ e. begun_alike side put got put' got' a b ∙ m.begun e;
-  kind = λ e. m.kind e ∙ sym (asker_alike side put got put' got' a b);
-  marked = λ e. rw (b.receive, b.send) (m.marked e);
-  quiet = a.clean ∙ m.quiet;
-  honest = λ e. honest_alike put got put' got' p a b (m.honest e);
-}
+may_alike side put got put' got' p a b m = grind (arith, common_steps)
 
 opens_alike : (put got put' got' : List Packet) → Alike put put' → Alike got got' → (put ≡ [] → put' ≡ []) → (got ≡ [] → got' ≡ [])
     → ((put ≡ []) × (got ≡ [])) ⊎ IsClean put got → ((put' ≡ []) × (got' ≡ [])) ⊎ IsClean put' got'
-opens_alike put got put' got' a b none_put none_got (inl none) = inl (none_put none.0, none_got none.1)
-opens_alike put got put' got' a b none_put none_got (inr c) =
-    inr (record { not_reset = a.reset c.not_reset; marked = b.clean ∙ c.marked })
+opens_alike x0 x1 x2 x3 x4 x5 x6 x7 x8 = grind (arith, common_steps)
 
 -- The same of the present connection.
 pub may_steady : (side : Side) (put got : List Packet) (p : Packet) → AllFormed put → AllFormed got → MayPutNow side put got p
@@ -175,8 +155,4 @@ may_steady side put got p formed_put formed_got m =
     }
 
 pub now_formed : (side : Side) (put got : List Packet) (p : Packet) → MayPutNow side put got p → IsFormed p
-now_formed side put got p m = by (is_request p) refl
-  where
-    by : (b : Bool) → is_request p ≡ b → IsFormed p
-    by true is = (m.opens is).1.formed
-    by false is = (m.goes_on is).formed
+now_formed side put got p m = grind (arith, common_steps)

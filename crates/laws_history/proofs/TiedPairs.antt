@@ -1,4 +1,5 @@
 -- Two ends: what the peer was allowed to put is allowed when it is got.
+use Rattle.std.proofs.lemmas.Grind.{common_steps}
 use Rattle.std.proofs.Common.{◌≡◌, ◌+◌, ◌-◌, ◌≤◌, Bool, true, false, List, [], ◌∷◌, ◌++◌, refl, sym, ap, ◌∙◌, subst, subst₂, append_assoc, arith}
 use Rattle.laws_history.specs.{History.{Answerer, Asker, Got, HasGot, History, IsNext, MayPut, Put, Side, gots, peer, puts}, Again.{AllowsNext, IsFairAll, MayPutNext, after}}
 use Rattle.laws_history.specs.{Again.{count, now_got, now_put, since_request}, declared.packet.Packet.Packet, Packets.{allowance, bytes, is_clean_rst, is_request, is_rst, size}}
@@ -78,12 +79,7 @@ later_going side put more older p other same rises may = record {
 later_opening : (side : Side) (put more older : List Packet) (p : Packet) → is_request p ≡ true
     → count is_clean_rst (more ++ older) ≡ count is_clean_rst older
     → MayPutNext side put older p → MayPutNext side put (more ++ older) p
-later_opening side put more older p asks same may =
-    let opens = may.opens asks in
-    record {
-      opens = λ _. record { over = same ∙ opens.over; not_reset = opens.not_reset; first = opens.first };
-      goes_on = λ e. let bad : true ≡ false = sym asks ∙ e in absurd cc;
-    }
+later_opening side put more older p asks same may = grind (arith, common_steps)
 
 -- Mine is the asker: the answerer's packet.
 asker_gets : (mine : History) (more older : List Packet) (p : Packet) → IsFairAll Asker mine → puts mine ≡ more ++ older

@@ -50,15 +50,7 @@ both_later = grind (arith, common_steps)
 -- What an end may put, it may also put after it got more.
 pub may_put_later : (side : Side) (put older ps : List Packet) (p : Packet) → Later older ps → MayPut side put older p
     → MayPut side put ps p
-may_put_later side put older ps p l m = record {
-  formed = m.formed;
-  timely = timely_later side put older ps _ l m.timely;
-  begun = λ e. begun_later side put older ps l (m.begun e);
-  kind = λ e. m.kind e ∙ kind_later side put older ps l (m.begun e);
-  marked = λ e. both_later older ps l (m.marked e);
-  quiet = m.quiet;
-  honest = λ e. honest_later put older ps p l (m.honest e);
-}
+may_put_later side put older ps p l m = grind (arith, common_steps)
 
 -- The history as it was when a packet was put.
 record PutAt (side : Side) (h : History) (front : List Packet) (p : Packet) : Type 0 where

@@ -1,5 +1,5 @@
 -- Fairness between guests. What stands between them keeps no connections, and passes on the RSTs of those that it refused.
-use Rattle.std.specs.Prelude.{◌≡◌, ◌==◌, ◌&&◌, not, Bool, true, false, if◌then◌else◌, List, [], ◌∷◌}
+use Rattle.std.specs.Prelude.{◌≡◌, ◌==◌, ◌&&◌, not, Bool, false, if◌then◌else◌, List, [], ◌∷◌}
 use Rattle.vs_header.specs.declared.TheConstants.{CLEAN}
 use Rattle.laws_history.specs.{declared.packet.Packet.Packet, Packets.{is_rst, IsFormed}, History.{History, Put, Got, Entry, Side, peer, puts, gots}}
 use Rattle.laws_history.specs.Again.{MayPutNow, present}
