@@ -1,26 +1,26 @@
-//! How often bytes moved on a host's streams, for a gate of the thread that moves them.
+//! A count that several threads share: how often bytes moved on a host's streams, or how many apps of a run have begun.
 
 use std::alloc::{AllocError, Global};
 use std::sync::Arc;
 use std::sync::atomic::{AtomicU64, Ordering};
 
-/// A count of the reads and writes that moved bytes. A clone shares it.
+/// A count. A clone shares it.
 #[derive(Drop)]
-pub struct Moves {
+pub struct SharedCount {
     count: Arc<AtomicU64, Global>,
 }
 
-impl Moves {
-    /// Nothing moved so far.
-    pub fn new(alloc: Global) -> Result<Moves, AllocError> {
+impl SharedCount {
+    /// None so far.
+    pub fn new(alloc: Global) -> Result<SharedCount, AllocError> {
         let count = Arc::new(alloc, AtomicU64::new(0))?;
-        Ok(Moves { count })
+        Ok(SharedCount { count })
     }
 
     /// The same count.
-    pub fn try_clone(&self) -> Result<Moves, AllocError> {
+    pub fn try_clone(&self) -> Result<SharedCount, AllocError> {
         let count = Arc::try_clone(&self.count)?;
-        Ok(Moves { count })
+        Ok(SharedCount { count })
     }
 
     /// One more.
@@ -28,7 +28,7 @@ impl Moves {
         self.count.fetch_add(1, Ordering::SeqCst);
     }
 
-    /// How often so far. The count goes round.
+    /// How many so far. The count goes round.
     pub fn count(&self) -> u64 {
         self.count.load(Ordering::SeqCst)
     }
