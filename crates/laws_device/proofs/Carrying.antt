@@ -8,9 +8,9 @@ use Rattle.vs_proxy_parts.specs.State.{Handshake}
 use Rattle.vs_ring_port.specs.{Chains.Held, EndLog.EndLog}
 use Rattle.vs_device_parts.specs.{Calls.{HostMoves, Situation, DeviceTree}, Playing.{IsRxChain, Runs}, State.{DeviceConnection, DeviceState}}
 use Rattle.laws_device.proofs.{Named.Tables.{some_after, some_from}, Ringing.{Telling, Tells, host_moves, tells_weaker}, Chains.{Among, alone, alone_so}, Seats.{AgreesBy, Carried}, Sure.Guard}
-use Rattle.laws_device.{proofs.Keeping.{Keeps, keeps_end}, specs.{Carried.Streamed.{IsStreamed, ports_of}, Honest.{IsFitState, IsWith}, Streams.{AreHeard, AreStreamedWith}}}
+use Rattle.laws_device.{proofs.Keeping.{Keeps, keeps_end}, specs.{Carried.Streamed.{IsStreamed, ports_of}, Honest.{IsFitState, IsWith}, Streams.{AreHeard, AreStreamedSince}}}
 use Rattle.laws_tables.proofs.Fair.{got_one}
-use Rattle.laws_device.specs.Carried.Streamed.{serving_of}
+use Rattle.laws_device.specs.Carried.Streamed.{Since, lasting, serving_of}
 use Rattle.vs_device_parts.specs.Connections.{with_fault}
 use Rattle.vs_wrap.specs.Wrap.{counted}
 use Rattle.laws_device.proofs.Carried.Changing.{lost_streams}
@@ -21,7 +21,7 @@ Fact = Option HostContents → Log → Type 0
 
 -- The streams of a device, where they are carried.
 abbrev pub StreamedOver : Carried → List Handshake → ℕ → ℕ → DeviceState → Fact
-StreamedOver carry lines first port s host log = carry.ok → carry.plain first log → ForSome host (λ h. IsStreamed h log (ports_of carry.stay port s) s.table lines)
+StreamedOver carry lines first port s host log = carry.ok → carry.plain first log → ForSome host (λ h. IsStreamed h log (ports_of carry.since port s) s.table lines)
 
 abbrev pub IsToldBy : Carried → Fact → ℕ → ℕ → DeviceState → Telling
 IsToldBy carry fact first port s honest host l =
@@ -40,18 +40,18 @@ heard_before first _ log heard = heard
 
 -- A step on streams, without a call on the host and with one.
 module _ (carry : Carried) (first : ℕ) (hands lines : List Handshake) (port next : ℕ) (s t : DeviceState) (log new : Log) (once : carry.plain first new → carry.plain first log) where
-  pub streams_go : ((h : HostContents) → carry.plain first new → IsStreamed h log (ports_of carry.stay port s) s.table hands → IsStreamed h new (ports_of carry.stay next t) t.table lines) → (o : Option HostContents)
+  pub streams_go : ((h : HostContents) → carry.plain first new → IsStreamed h log (ports_of carry.since port s) s.table hands → IsStreamed h new (ports_of carry.since next t) t.table lines) → (o : Option HostContents)
       → StreamedOver carry hands first port s o log → StreamedOver carry lines first next t o new
   streams_go step o was = λ is few.
-      some_from o (λ h. IsStreamed h log (ports_of carry.stay port s) s.table hands) (λ h. IsStreamed h new (ports_of carry.stay next t) t.table lines) (λ h x. step h few x) (was is (once few))
+      some_from o (λ h. IsStreamed h log (ports_of carry.since port s) s.table hands) (λ h. IsStreamed h new (ports_of carry.since next t) t.table lines) (λ h x. step h few x) (was is (once few))
 
-  pub streams_call : (A : HostContents → Type 0) (f : HostContents → HostContents) → ((h : HostContents) → A h → carry.plain first new → IsStreamed h log (ports_of carry.stay port s) s.table hands
-      → IsStreamed (f h) new (ports_of carry.stay next t) t.table lines) → (o n : Option HostContents) → Exposes o n A f → StreamedOver carry hands first port s o log → StreamedOver carry lines first next t n new
+  pub streams_call : (A : HostContents → Type 0) (f : HostContents → HostContents) → ((h : HostContents) → A h → carry.plain first new → IsStreamed h log (ports_of carry.since port s) s.table hands
+      → IsStreamed (f h) new (ports_of carry.since next t) t.table lines) → (o n : Option HostContents) → Exposes o n A f → StreamedOver carry hands first port s o log → StreamedOver carry lines first next t n new
   streams_call A f step o n made was = λ is few.
-      some_after o n A f (λ h. IsStreamed h log (ports_of carry.stay port s) s.table hands) (λ h. IsStreamed h new (ports_of carry.stay next t) t.table lines) made (λ h answers x. step h answers few x) (was is (once few))
+      some_after o n A f (λ h. IsStreamed h log (ports_of carry.since port s) s.table hands) (λ h. IsStreamed h new (ports_of carry.since next t) t.table lines) made (λ h answers x. step h answers few x) (was is (once few))
 
 pub put_goes : (carry : Carried) (first : ℕ) (lines : List Handshake) (port : ℕ) (s t : DeviceState) (log : Log) (p : Packet)
-    → ((h : HostContents) → IsStreamed h log (ports_of carry.stay port s) s.table lines → IsStreamed h (PutPacket p ∷ log) (ports_of carry.stay port t) t.table lines) → (o : Option HostContents)
+    → ((h : HostContents) → IsStreamed h log (ports_of carry.since port s) s.table lines → IsStreamed h (PutPacket p ∷ log) (ports_of carry.since port t) t.table lines) → (o : Option HostContents)
     → StreamedOver carry lines first port s o log → StreamedOver carry lines first port t o (PutPacket p ∷ log)
 put_goes carry first lines port s t log p step =
     streams_go carry first lines lines port port s t log (PutPacket p ∷ log) (carry.before first (PutPacket p) log) (λ h few x. step h x)
@@ -63,10 +63,10 @@ faulted_lost stay s = grind (arith, nat_tests, common_steps)
 pub dropped_lost : (stay : Bool) (s : DeviceState) → (serving_of stay (record s { dropped = counted s.dropped })).lost ≡ true
 dropped_lost stay s = grind (arith, nat_tests, common_steps)
 
-pub faulted_streams : (stay : Bool) (port : ℕ) (s : DeviceState) (g : HostContents) (log : Log) (lines : List Handshake) → IsFitState s
-    → IsStreamed g log (ports_of stay port s) s.table lines → IsStreamed g log (ports_of stay port (with_fault s)) s.table lines
-faulted_streams stay port s g log lines fits x =
-    lost_streams g log (ports_of stay port s) s.table lines x fits.sound (ports_of stay port (with_fault s)) refl refl refl refl (faulted_lost stay s)
+pub faulted_streams : (since : Since) (port : ℕ) (s : DeviceState) (g : HostContents) (log : Log) (lines : List Handshake) → IsFitState s
+    → IsStreamed g log (ports_of since port s) s.table lines → IsStreamed g log (ports_of since port (with_fault s)) s.table lines
+faulted_streams since port s g log lines fits x =
+    lost_streams g log (ports_of since port s) s.table lines x fits.sound (ports_of since port (with_fault s)) refl refl refl refl refl (faulted_lost since.stays s)
 
 pub faulted : (carry : Carried) (lines : List Handshake) (first port : ℕ) (s : DeviceState) (c : Situation) → With carry lines first port s c
     → With carry lines first port (with_fault s) c
@@ -78,16 +78,16 @@ faulted carry lines first port s c holds = (
         λ honest. let p = was.1 honest in (
           p.0,
           streams_go carry first lines lines port port s (with_fault s) l.entries l.entries (λ few. few)
-              (λ h few x. faulted_streams carry.stay port s h l.entries lines p.0.fits x) o p.1,
+              (λ h few x. faulted_streams carry.since port s h l.entries lines p.0.fits x) o p.1,
         ),
       )) c holds.1,
 )
 
 -- What is known at first of a whole call, and what follows.
-abbrev pub whole : Type 0 → Carried
-whole ok = record {
+abbrev pub whole : Bool → Type 0 → Carried
+whole fresh ok = record {
   ok = ok;
-  stay = true;
+  since = lasting fresh;
   others = λ held. held ≡ [];
   asks = λ f. Unit {0};
   of_host = λ f host. tt;
@@ -102,14 +102,14 @@ whole ok = record {
       few.0 (ap (λ (cid : ℕ). is_dropped Device cid p.header) (sym m.flows.cid) ∙ dropped) (ap is_some own.kind_is);
 }
 
-module _ (ok : Type 0) (lines : List Handshake) (first port : ℕ) (s : DeviceState) (c : Situation) where
-  pub held_with : IsWith first port s c.ring → (ok → AreStreamedWith first port lines s c) → With (whole ok) lines first port s c
+module _ (fresh : Bool) (ok : Type 0) (lines : List Handshake) (first port : ℕ) (s : DeviceState) (c : Situation) where
+  pub held_with : IsWith first port s c.ring → (ok → AreStreamedSince fresh first port lines s c) → With (whole fresh ok) lines first port s c
   held_with holds streams = (
     holds.0,
     record {
       sure = tt;
       told = λ l is. let was = holds.1 l is in (
-        λ still. subst (λ (held : List Held). Among (whole ok).others s.chain held) (sym (was.0 still)) (alone_so s.chain),
+        λ still. subst (λ (held : List Held). Among (whole fresh ok).others s.chain held) (sym (was.0 still)) (alone_so s.chain),
         λ honest. let p = was.1 honest in (
           record { fits = p.fits; none_overrun = p.none_overrun; matches = p.matches; fair = p.fair; seated = tt },
           λ good few. streams good honest l is few,
@@ -118,7 +118,7 @@ module _ (ok : Type 0) (lines : List Handshake) (first port : ℕ) (s : DeviceSt
     },
   )
 
-  pub with_ring : With (whole ok) lines first port s c → IsWith first port s c.ring
+  pub with_ring : With (whole fresh ok) lines first port s c → IsWith first port s c.ring
   with_ring holds = (
     holds.0,
     λ l is. let was = holds.1.told l is in (
@@ -127,33 +127,33 @@ module _ (ok : Type 0) (lines : List Handshake) (first port : ℕ) (s : DeviceSt
     ),
   )
 
-  pub with_streams : With (whole ok) lines first port s c → ok → AreStreamedWith first port lines s c
+  pub with_streams : With (whole fresh ok) lines first port s c → ok → AreStreamedSince fresh first port lines s c
   with_streams holds good honest l is few = ((holds.1.told l is).1 honest).1 good few
 
 -- Of the ring alone, and of the host too.
 abbrev pub ring_only : Carried
-ring_only = whole ⊥
+ring_only = whole false ⊥
 
-abbrev pub ring_and_host : Carried
-ring_and_host = whole (Unit {0})
+abbrev pub ring_and_host : Bool → Carried
+ring_and_host fresh = whole fresh (Unit {0})
 
 pub plain_with : (first port : ℕ) (s : DeviceState) (c : Situation) → IsWith first port s c.ring → With ring_only [] first port s c
-plain_with first port s c holds = held_with ⊥ [] first port s c holds (λ no. absurd no)
+plain_with first port s c holds = held_with false ⊥ [] first port s c holds (λ no. absurd no)
 
 -- What a whole conversation leaves.
-pub streamed_end : {A : Type 0} (first port : ℕ) (lines : List Handshake) (state_of : A → DeviceState) (s : DeviceState) (tree : DeviceTree A)
-    (a b : Situation) (x : A) → IsWith first port s a.ring → AreStreamedWith first port lines s a
-    → (With ring_and_host lines first port s a → Keeps (λ y d. With ring_and_host lines first port (state_of y) d) tree a) → Runs tree a x b
-    → AreStreamedWith first port lines (state_of x) b
-streamed_end first port lines state_of s tree a b x holds streams keeps runs =
-    with_streams (Unit {0}) lines first port (state_of x) b
-    (keeps_end (λ y d. With ring_and_host lines first port (state_of y) d) tree a b x (keeps (held_with (Unit {0}) lines first port s a holds (λ ok. streams))) runs) tt
+pub streamed_end : {A : Type 0} (fresh : Bool) (first port : ℕ) (lines : List Handshake) (state_of : A → DeviceState) (s : DeviceState) (tree : DeviceTree A)
+    (a b : Situation) (x : A) → IsWith first port s a.ring → AreStreamedSince fresh first port lines s a
+    → (With (ring_and_host fresh) lines first port s a → Keeps (λ y d. With (ring_and_host fresh) lines first port (state_of y) d) tree a) → Runs tree a x b
+    → AreStreamedSince fresh first port lines (state_of x) b
+streamed_end fresh first port lines state_of s tree a b x holds streams keeps runs =
+    with_streams fresh (Unit {0}) lines first port (state_of x) b
+    (keeps_end (λ y d. With (ring_and_host fresh) lines first port (state_of y) d) tree a b x (keeps (held_with fresh (Unit {0}) lines first port s a holds (λ ok. streams))) runs) tt
 
 pub ring_end : {A : Type 0} (first port : ℕ) (state_of : A → DeviceState) (s : DeviceState) (tree : DeviceTree A) (a b : Situation) (x : A)
     → IsWith first port s a.ring → (With ring_only [] first port s a → Keeps (λ y d. With ring_only [] first port (state_of y) d) tree a) → Runs tree a x b
     → IsWith first port (state_of x) b.ring
 ring_end first port state_of s tree a b x holds keeps runs =
-    with_ring ⊥ [] first port (state_of x) b
+    with_ring false ⊥ [] first port (state_of x) b
     (keeps_end (λ y d. With ring_only [] first port (state_of y) d) tree a b x (keeps (plain_with first port s a holds)) runs)
 
 -- What is known of the host alone changes, without a call on it and with one.
@@ -197,9 +197,9 @@ module _ (carry : Carried) (first port : ℕ) (s : DeviceState) (v : DeviceConne
       now still p.fits o n l.entries exposes) c d made holds
 
   pub closed_with : (lines : List Handshake) (r t : DeviceState)
-      → (v.closed ≡ true → IsFitState s → (h : HostContents) (log : Log) → IsStreamed h log (ports_of carry.stay port r) r.table lines → IsStreamed h log (ports_of carry.stay port t) t.table lines)
-      → (IsFitState s → (h : HostContents) (log : Log) → IsStreamed h log (ports_of carry.stay port r) r.table lines
-      → IsStreamed (after_close v.stream h) log (ports_of carry.stay port t) t.table lines)
+      → (v.closed ≡ true → IsFitState s → (h : HostContents) (log : Log) → IsStreamed h log (ports_of carry.since port r) r.table lines → IsStreamed h log (ports_of carry.since port t) t.table lines)
+      → (IsFitState s → (h : HostContents) (log : Log) → IsStreamed h log (ports_of carry.since port r) r.table lines
+      → IsStreamed (after_close v.stream h) log (ports_of carry.since port t) t.table lines)
       → Closes v c d → IsHeldBy carry (StreamedOver carry lines first port r) first port s c
       → IsHeldBy carry (StreamedOver carry lines first port t) first port s d
   closed_with lines r t was now = closed_held (StreamedOver carry lines first port r) (StreamedOver carry lines first port t)

@@ -1,5 +1,5 @@
 -- What the device decided to send no more on, it puts no payload on, over any conversation along which its seat goes by steps.
-use Rattle.std.proofs.Common.{◌≡◌, ℕ, true, List, [], Some, refl, sym, subst, ◌∙◌}
+use Rattle.std.proofs.Common.{◌≡◌, ℕ, false, true, List, [], Some, refl, sym, subst, ◌∙◌}
 use Rattle.vs_flow.specs.Connection.{Connection}
 use Rattle.vs_page.specs.Log.{Device}
 use Rattle.vs_ring_port.specs.{Chains.Held, EndLog.EndLog}
@@ -7,12 +7,13 @@ use Rattle.laws_tables.{specs.Both.{Seat, after}, proofs.{Going.{Goes, goes_on, 
 use Rattle.vs_device_parts.specs.{Calls.{DeviceTree, Situation}, Playing.Runs, State.DeviceState}
 use Rattle.vs_proxy_parts.specs.State.{Handshake}
 use Rattle.laws_device.{specs.{Honest.{IsWith, StaysPast}, Streams.AreHeard}, proofs.{Carrying.{With, heard_before, ring_only}, Chains.{Among, alone_so}, Keeping.{Keeps, keeps_end}}}
+use Rattle.laws_device.specs.Carried.Streamed.{lasting}
 use Rattle.laws_device.proofs.{Logs.goes_on as log_goes_on, Seats.{Carried, seat}}
 
 abbrev pub going : Seat → Carried
 going v = record {
   ok = ⊥;
-  stay = true;
+  since = lasting false;
   others = λ held. held ≡ [];
   asks = λ f. Unit {0};
   of_host = λ f host. tt;

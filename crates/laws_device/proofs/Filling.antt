@@ -103,11 +103,11 @@ module _ (carry : Carried) (lines : List Handshake) (first port : ℕ) where
   -- The same, where the streams are as the table says then, and no call on the host follows.
   empty_put : (h : Header) (s t : DeviceState) → is_request (record { header = h; payload = [] }) ≡ false
       → (IsFitState s → MayFollow t.table (record { header = h; payload = [] }))
-      → (IsFitState s → (c : HostContents) (log : Log) → IsStreamed c log (ports_of carry.stay port s) s.table lines → IsStreamed c log (ports_of carry.stay port t) t.table lines)
+      → (IsFitState s → (c : HostContents) (log : Log) → IsStreamed c log (ports_of carry.since port s) s.table lines → IsStreamed c log (ports_of carry.since port t) t.table lines)
       → (o : Option HostContents) (l : EndLog) → AgreesBy carry first port s l → Streamed s o l.entries
       → Streamed t o (PutPacket (record { header = h; payload = [] }) ∷ l.entries)
   empty_put h s t plain may carries o l p x = put_goes carry first lines port s t l.entries (record { header = h; payload = [] })
-      (λ c y. put_empty c l.entries (ports_of carry.stay port t) t.table lines (record { header = h; payload = [] }) refl plain (may p.fits)
+      (λ c y. put_empty c l.entries (ports_of carry.since port t) t.table lines (record { header = h; payload = [] }) refl plain (may p.fits)
       (carries p.fits c l.entries y)) o x
 
   one_put : (q : Filling) (c : Situation) → Over q c → Goes Ready Over (q, not q.over) c
@@ -139,11 +139,11 @@ module _ (carry : Carried) (lines : List Handshake) (first port : ℕ) where
     -- The connection, which stays.
     stays_by : (what : Owed) (v : DeviceConnection) → owes_of e.value.end ≡ Some what → is_new e.value.end ≡ false
         → v ≡ record e.value { end = paid_of e.value.end what; asked_at = v.asked_at }
-        → (IsFitState r.state → (c : HostContents) (log : Log) → IsStreamed c log (ports_of carry.stay port r.state) r.state.table lines
-        → IsStreamed c log (ports_of carry.stay port r.state) (with_value r.state.table e.slot v) lines)
-    stays_by what v owes begun is fits h log x = subst (λ (w : DeviceConnection). IsStreamed h log (ports_of carry.stay port r.state) (with_value r.state.table e.slot w) lines)
+        → (IsFitState r.state → (c : HostContents) (log : Log) → IsStreamed c log (ports_of carry.since port r.state) r.state.table lines
+        → IsStreamed c log (ports_of carry.since port r.state) (with_value r.state.table e.slot v) lines)
+    stays_by what v owes begun is fits h log x = subst (λ (w : DeviceConnection). IsStreamed h log (ports_of carry.since port r.state) (with_value r.state.table e.slot w) lines)
         (sym is)
-        (ends_streams h log (ports_of carry.stay port r.state) r.state.table lines x fits.sound e there (record
+        (ends_streams h log (ports_of carry.since port r.state) r.state.table lines x fits.sound e there (record
         e.value { end = paid_of e.value.end what; asked_at = v.asked_at })
         refl refl refl (owed_old e.value.end what owes ∙ sym begun) refl refl (pays_gives e.value.end what owes) (paid_asked e.value.end what))
 
@@ -171,7 +171,7 @@ module _ (carry : Carried) (lines : List Handshake) (first port : ℕ) where
         (λ fits. owed_puts carry port r.state fits e there owed.Request owes v refl refl refl)
         (λ o l p y. put_goes carry first lines port r.state t l.entries
         (record { header = owed_header e.value.end (route_to_guest r.state.cid e.flow) owed.Request; payload = [] })
-        (λ h x. asks_streams h l.entries (ports_of carry.stay port r.state) r.state.table lines x p.fits.sound e there v refl refl refl (request_new e.value.end owes)
+        (λ h x. asks_streams h l.entries (ports_of carry.since port r.state) r.state.table lines x p.fits.sound e there v refl refl refl (request_new e.value.end owes)
         (owed_old e.value.end owed.Request owes) refl refl (pays_gives e.value.end owed.Request owes) (paid_asked e.value.end owed.Request)
         (record { header = owed_header e.value.end (route_to_guest r.state.cid e.flow) owed.Request; payload = [] }) refl refl refl
         ((entry_fits r.state p.fits e there).new (request_new e.value.end owes)).by_client (unkept p)) o y)
@@ -192,9 +192,9 @@ module _ (carry : Carried) (lines : List Handshake) (first port : ℕ) where
         (closing_keeps (λ u. R (after_leaving e.slot u)) e stream_closed gone d
         (λ x closes. holds x (closed_held carry first port t e.value d x F (Streamed t)
         (λ shut fits o log y. streams_go carry first lines lines port port r.state t log log (λ few. few)
-        (λ h few z. leaves_streams h log (ports_of carry.stay port r.state) r.state.table lines z y.0 e there shut (stream_closed e.value)) o y.1)
+        (λ h few z. leaves_streams h log (ports_of carry.since port r.state) r.state.table lines z y.0 e there shut (stream_closed e.value)) o y.1)
         (λ still fits o n log exposes y. streams_call carry first lines lines port port r.state t log log (λ few. few)
-        (λ h. Unit {0}) (after_close e.value.stream) (λ h any few z. closes_streams h log (ports_of carry.stay port r.state) r.state.table lines z y.0 e there
+        (λ h. Unit {0}) (after_close e.value.stream) (λ h any few z. closes_streams h log (ports_of carry.since port r.state) r.state.table lines z y.0 e there
         (stream_closed e.value)) o n exposes y.1)
         closes held)))) c ready
     owed_by what owes c ready =
@@ -278,23 +278,23 @@ module _ (carry : Carried) (lines : List Handshake) (first port : ℕ) where
           (carry.before first (PutPacket (payload_on Device r.state.cid e.flow e.value.end payload)) l.entries)
           (IsReadOf e.value.stream room (read.Got n, payload)) (after_read e.value.stream (read.Got n)) (λ h is few x.
           subst (λ (bytes : List ℕ). IsStreamed (after_read e.value.stream (read.Got n) h)
-          (PutPacket (payload_on Device r.state.cid e.flow e.value.end bytes) ∷ l.entries) (ports_of carry.stay port r.state) (with_value r.state.table e.slot (sent bytes)) lines)
+          (PutPacket (payload_on Device r.state.cid e.flow e.value.end bytes) ∷ l.entries) (ports_of carry.since port r.state) (with_value r.state.table e.slot (sent bytes)) lines)
           (sym is.1) (let fair = good_fair carry.fairly l.entries (carry.sure first _ (carry.before first _ l.entries few)) p.fair in
-          reads_streams h l.entries (ports_of carry.stay port r.state) r.state.table lines x p.fits.sound fair e there old n r.state.cid
+          reads_streams h l.entries (ports_of carry.since port r.state) r.state.table lines x p.fits.sound fair e there old n r.state.cid
           (subst (λ (bytes : List ℕ). IsFairLog Device (PutPacket (payload_on Device r.state.cid e.flow e.value.end bytes) ∷ l.entries)) is.1
           ((send_puts carry port with_it p.fits e there payload (can_send e.value.end (length payload) may (omega (arith, made.1)))
           (omega (arith, made.1)) old).fair first l.entries p.matches fair)))) o k exposes) c d made.0 holds)
       answered_keeps read.Again payload c d made holds = (
         called_with carry lines first port with_it with_it refl refl (λ fits. same carry port with_it fits) false
             (IsReadOf e.value.stream room (read.Again, payload)) called
-            (λ fits h log is x. called_host h log (ports_of carry.stay port r.state) r.state.table lines x) c d made.0 holds,
+            (λ fits h log is x. called_host h log (ports_of carry.since port r.state) r.state.table lines x) c d made.0 holds,
         λ still. going,
       )
       answered_keeps read.End payload c d made holds = (
         called_with carry lines first port with_it (with_connection e.slot (after_shut 2 with_it.now e.value) with_it) refl refl
             (λ fits. shuts carry port with_it fits e there 2 with_it.now old) false (IsReadOf e.value.stream room (read.End, payload)) called
-            (λ fits h log is x. called_host h log (ports_of carry.stay port r.state) (with_value r.state.table e.slot (after_shut 2 with_it.now e.value)) lines
-            (shuts_streams h log (ports_of carry.stay port r.state) r.state.table lines x fits.sound e 2 with_it.now there old)) c d made.0 holds,
+            (λ fits h log is x. called_host h log (ports_of carry.since port r.state) (with_value r.state.table e.slot (after_shut 2 with_it.now e.value)) lines
+            (shuts_streams h log (ports_of carry.since port r.state) r.state.table lines x fits.sound e 2 with_it.now there old)) c d made.0 holds,
         λ still. going,
       )
       answered_keeps read.Failed payload c d made holds =
@@ -304,7 +304,7 @@ module _ (carry : Carried) (lines : List Handshake) (first port : ℕ) where
                 (λ fits. cuts carry port (with_fault with_it) fits e there old) d x closes
                 (faulted carry lines first port with_it d (called_with carry lines first port with_it with_it refl refl (λ fits. same carry port with_it fits) true
                 (IsReadOf e.value.stream room (read.Failed, payload)) called
-                (λ fits h log is y. called_host h log (ports_of carry.stay port r.state) r.state.table lines y) c d made.0 holds)),
+                (λ fits h log is y. called_host h log (ports_of carry.since port r.state) r.state.table lines y) c d made.0 holds)),
             λ still. going,
           )))
 
@@ -320,7 +320,7 @@ module _ (carry : Carried) (lines : List Handshake) (first port : ℕ) where
         (bind (hold r) (read_with_chain e))) c
     read_by true c ready = (
       changed carry lines first port r.state (with_connection e.slot (record e.value { end = wanting_credit e.value.end }) r.state) refl refl
-          (λ fits. wants carry port r.state fits e there old) (λ fits h log x. ends_streams h log (ports_of carry.stay port r.state) r.state.table lines x fits.sound e there
+          (λ fits. wants carry port r.state fits e there old) (λ fits h log x. ends_streams h log (ports_of carry.since port r.state) r.state.table lines x fits.sound e there
           (record e.value { end = wanting_credit e.value.end }) refl refl refl refl refl refl (λ on. on) (λ on. on)) c ready.0,
       λ going. ready.1,
     )

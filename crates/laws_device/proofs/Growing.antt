@@ -1,7 +1,8 @@
 -- The buffer space of a connection is raised: no packet passes, and no call is made.
 use Rattle.std.proofs.Common.{arith}
 use Rattle.std.proofs.lemmas.Grind.{common_steps}
-use Rattle.laws_device.{specs.{Carried.Streamed.ports_of, Honest.IsWith, Named.Streams.HasStreams, Streams.AreStreamedWith}, proofs.Carrying.{With, held_with, plain_with}}
+use Rattle.std.proofs.Common.{Bool, false}
+use Rattle.laws_device.{specs.{Carried.Streamed.ports_of, Honest.IsWith, Named.Streams.HasStreams, Streams.AreStreamedSince}, proofs.Carrying.{With, held_with, plain_with}}
 use Rattle.laws_device.proofs.{Carrying.{ring_and_host, ring_only, with_ring, with_streams}, Changing.grows, Carried.Changing.ends_streams, Named.Tables.entry_by_slot}
 use Rattle.laws_device.proofs.{Named.Tables.{has_changed, value_by_entry}, Steps.changed, Seats.Carried, Walk.Serving.by_slot}
 use Rattle.std.proofs.Common.{◌≡◌, ℕ, List, [], Some, None, refl}
@@ -32,20 +33,20 @@ module _ (slot alloc : ℕ) (s : DeviceState) where
       let is = by_slot s.table slot e found in
       changed carry lines first port s (grown_by rise.Done alloc e s) refl refl
       (λ fits. grows carry port s fits e is.among alloc (may_grow e.value.end alloc done))
-      (λ fits h log x. ends_streams h log (ports_of carry.stay port s) s.table lines x fits.sound e is.among (record e.value { end = grown e.value.end alloc })
+      (λ fits h log x. ends_streams h log (ports_of carry.since port s) s.table lines x fits.sound e is.among (record e.value { end = grown e.value.end alloc })
       refl refl refl refl refl refl (λ on. on) (λ on. on)) c holds)
 
   pub grow_with : (first port : ℕ) (c : RingContents) → IsWith first port s c → IsWith first port (after_grow slot alloc s) c
   grow_with first port c holds =
       let a : Situation = situation c None 0 in
-      with_ring ⊥ [] first port (after_grow slot alloc s) a
+      with_ring false ⊥ [] first port (after_grow slot alloc s) a
       (grow_keeps ring_only [] first port a (plain_with first port s a holds))
 
-  pub grow_streamed : (first port : ℕ) (lines : List Handshake) (a : Situation) → IsWith first port s a.ring
-      → AreStreamedWith first port lines s a → AreStreamedWith first port lines (after_grow slot alloc s) a
-  grow_streamed first port lines a holds streams =
-      with_streams (Unit {0}) lines first port (after_grow slot alloc s) a
-      (grow_keeps ring_and_host lines first port a (held_with (Unit {0}) lines first port s a holds (λ ok. streams))) tt
+  pub grow_streamed : (fresh : Bool) (first port : ℕ) (lines : List Handshake) (a : Situation) → IsWith first port s a.ring
+      → AreStreamedSince fresh first port lines s a → AreStreamedSince fresh first port lines (after_grow slot alloc s) a
+  grow_streamed fresh first port lines a holds streams =
+      with_streams fresh (Unit {0}) lines first port (after_grow slot alloc s) a
+      (grow_keeps (ring_and_host fresh) lines first port a (held_with fresh (Unit {0}) lines first port s a holds (λ ok. streams))) tt
 
   pub grow_streams : (others : List ℕ) (h : HostContents) → HasStreams others s.table h → HasStreams others (after_grow slot alloc s).table h
   grow_streams others h has =

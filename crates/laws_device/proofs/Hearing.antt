@@ -120,8 +120,8 @@ module _ (carry : Carried) (lines : List Handshake) (first port : ℕ) (s : Devi
   -- What comes to the streams, of which one may be made or closed.
   abbrev Streams : (HostContents → HostContents) → DeviceState → Type 0
   Streams f t = (payload : List ℕ) (log : Log) → LeftBy carry first port s.cid s.overrun s.table s.replies s.clean log → IsFairLog Device (GotPacket (packet payload) ∷ log)
-      → IsWhole (packet payload) → carry.plain first (GotPacket (packet payload) ∷ log) → (c : HostContents) → IsStreamed c log (ports_of carry.stay port s) s.table lines
-      → IsStreamed (f c) (GotPacket (packet payload) ∷ log) (ports_of carry.stay port t) t.table lines
+      → IsWhole (packet payload) → carry.plain first (GotPacket (packet payload) ∷ log) → (c : HostContents) → IsStreamed c log (ports_of carry.since port s) s.table lines
+      → IsStreamed (f c) (GotPacket (packet payload) ∷ log) (ports_of carry.since port t) t.table lines
 
   -- Where the log is plain, it is fair.
   fair_come : (page : List ℕ) (o : Option HostContents) (l : EndLog) (come : IsCome page o l)
@@ -163,8 +163,8 @@ module _ (carry : Carried) (lines : List Handshake) (first port : ℕ) (s : Devi
   calls : (t : DeviceState) (v : Verdict) (c d : Situation) (faults : Bool) (A : HostContents → Type 0) (f : HostContents → HostContents)
       → t.failed ≡ s.failed → t.chain ≡ s.chain → Hears t
       → ((payload : List ℕ) (log : Log) → LeftBy carry first port s.cid s.overrun s.table s.replies s.clean log → IsFairLog Device (GotPacket (packet payload) ∷ log)
-      → IsWhole (packet payload) → carry.plain first (GotPacket (packet payload) ∷ log) → (h : HostContents) → A h → IsStreamed h log (ports_of carry.stay port s) s.table lines
-      → IsStreamed (f h) (GotPacket (packet payload) ∷ log) (ports_of carry.stay port t) t.table lines)
+      → IsWhole (packet payload) → carry.plain first (GotPacket (packet payload) ∷ log) → (h : HostContents) → A h → IsStreamed h log (ports_of carry.since port s) s.table lines
+      → IsStreamed (f h) (GotPacket (packet payload) ∷ log) (ports_of carry.since port t) t.table lines)
       → HostMoves faults A f c d → Tells carry.fairly Came c → Heard (t, v) d
   calls t v c d faults A f failed chain_is step streams made tells = (
     failed,
@@ -280,7 +280,7 @@ module _ (carry : Carried) (lines : List Handshake) (first port : ℕ) (s : Devi
           → Streams (λ c. c) (with_connection e.slot (heard h e.value) s)
       heard_on v is other undelivered payload log was fair whole few c x =
           let o = known payload log was fair in
-          hears_streams c log (ports_of carry.stay port s) s.table lines x was.fits.sound (packet payload) whole (fair_before (packet payload) log fair) fair e there flow o.0 o.1 v is other undelivered
+          hears_streams c log (ports_of carry.since port s) s.table lines x was.fits.sound (packet payload) whole (fair_before (packet payload) log fair) fair e there flow o.0 o.1 v is other undelivered
 
       module _ (c : Situation) (tells : Tells carry.fairly Came c) where
         peers : (b : Bool) → is_reset h ≡ b → verdict_of e.value.end h ≡ verdict.Peer
@@ -294,16 +294,16 @@ module _ (carry : Carried) (lines : List Handshake) (first port : ℕ) (s : Devi
             let keep : Bool = keeps_flow h e in
             let gone : DeviceState = keeping keep e.flow (after_leaving e.slot (with_connection e.slot (stream_closed (heard h e.value)) s)) in
             let next : DeviceState → DeviceTree DeviceState = λ t. Done (keeping keep e.flow (after_leaving e.slot t)) in
-            let kept_ports : Ports = record (ports_of carry.stay port s) { clean = kept_if keep e.flow s.clean } in
+            let kept_ports : Ports = record (ports_of carry.since port s) { clean = kept_if keep e.flow s.clean } in
             let empty = reset_empty e.value.end.kind in
             let leaving_now = λ (payload : List ℕ) (log : Log) (was : LeftBy carry first port s.cid s.overrun s.table s.replies s.clean log)
             (fair : Good carry.fairly (GotPacket (packet payload) ∷ log)) (whole : IsWhole (packet payload)). leaves payload log was fair whole is reset in
             let ends = sym (rst_leaves e.value.end h) ∙ ap (λ (w : Verdict). peer_resets w h) is ∙ reset in
             let heard_streams = λ (payload : List ℕ) (log : Log) (was : LeftBy carry first port s.cid s.overrun s.table s.replies s.clean log)
             (fair : IsFairLog Device (GotPacket (packet payload) ∷ log)) (whole : IsWhole (packet payload)) (g : HostContents)
-            (y : IsStreamed g log (ports_of carry.stay port s) s.table lines).
-            keeps_streams g (GotPacket (packet payload) ∷ log) (ports_of carry.stay port s) s.table lines
-            (empty_streams g log (ports_of carry.stay port s) s.table lines y was.fits.sound (packet payload) whole (fair_before (packet payload) log fair) fair (empty (packet payload) ends)
+            (y : IsStreamed g log (ports_of carry.since port s) s.table lines).
+            keeps_streams g (GotPacket (packet payload) ∷ log) (ports_of carry.since port s) s.table lines
+            (empty_streams g log (ports_of carry.since port s) s.table lines y was.fits.sound (packet payload) whole (fair_before (packet payload) log fair) fair (empty (packet payload) ends)
             (reset_plain e.value.end.kind (packet payload) ends)) was.fits.sound e there (known payload log was fair).1 keep in
             let by : (d : Situation) → Closes x.value c d → Heard (gone, verdict.Peer) d = λ d closes. elim closes as
             (λ z. Heard (gone, verdict.Peer) d) [
@@ -341,8 +341,8 @@ module _ (carry : Carried) (lines : List Handshake) (first port : ℕ) (s : Devi
         accepted line written is = quiet (with_connection e.slot (record (heard h e.value) { ok_line = line }) s) verdict.Accept c refl refl
             (λ payload log was fair whole. accepts payload log was fair whole line is) (λ payload log was fair whole few c y.
             let o = known payload log was fair in
-            accepts_streams c log (ports_of carry.stay port s) s.table lines y was.fits.sound (packet payload) whole (fair_before (packet payload) log fair) fair e there flow o.0 o.1
-            (join_of (look c) c.labelled (count_in c) log (heard_at c (ports_of carry.stay port s)) s.table lines y e there).client line written is) tells
+            accepts_streams c log (ports_of carry.since port s) s.table lines y was.fits.sound (packet payload) whole (fair_before (packet payload) log fair) fair e there flow o.0 o.1
+            (join_of (look c) c.labelled (count_in c) log (heard_at c (ports_of carry.since port s)) s.table lines y e there).client line written is) tells
 
         by_verdict : (v : Verdict) → verdict_of e.value.end h ≡ v → Keeps Heard (with_verdict v (on_known v chain h e s)) c
         by_verdict verdict.Accept is = accepted _ refl is
@@ -368,7 +368,7 @@ module _ (carry : Carried) (lines : List Handshake) (first port : ℕ) (s : Devi
                       come.log (GotPacket (packet come.payload) ∷ come.log) (carry.before first (GotPacket (packet come.payload)) come.log) (λ c some x.
                       let fair_now = fair_come came.0 o l come some in
                       let known_now = known come.payload come.log come.was fair_now in
-                      delivers_streams c come.log (ports_of carry.stay port s) s.table lines x come.was.fits.sound (packet come.payload) come.whole (fair_before (packet come.payload) come.log fair_now) fair_now e there flow
+                      delivers_streams c come.log (ports_of carry.since port s) s.table lines x come.was.fits.sound (packet come.payload) come.whole (fair_before (packet come.payload) come.log fair_now) fair_now e there flow
                       known_now.0 known_now.1 bytes
                       (read ∙ payload_in came.0 (packet come.payload) come.held (delivered_rw e.value.end (packet come.payload) is)) is) o),
                 )) tells,
@@ -387,23 +387,23 @@ module _ (carry : Carried) (lines : List Handshake) (first port : ℕ) (s : Devi
     module _ (none : entry_of s.table (flow_to_host h) ≡ None) (c : Situation) (tells : Tells carry.fairly Came c) where
       -- A REQUEST that isn't served.
       abbrev Unserved : DeviceState → (HostContents → Type 0) → Type 0
-      Unserved t A = (payload : List ℕ) (log : Log) (c : HostContents) → IsFitState s → A c → IsStreamed c log (ports_of carry.stay port s) s.table lines
-          → IsStreamed c log (ports_of carry.stay port t) s.table lines × Lacks (heard_at c (ports_of carry.stay port t)).serving (packet payload) log
+      Unserved t A = (payload : List ℕ) (log : Log) (c : HostContents) → IsFitState s → A c → IsStreamed c log (ports_of carry.since port s) s.table lines
+          → IsStreamed c log (ports_of carry.since port t) s.table lines × Lacks (heard_at c (ports_of carry.since port t)).serving (packet payload) log
 
       passes : (t : DeviceState) (A : HostContents → Type 0) → Unserved t A → (payload : List ℕ) (log : Log)
           → LeftBy carry first port s.cid s.overrun s.table s.replies s.clean log → IsFairLog Device (GotPacket (packet payload) ∷ log) → IsWhole (packet payload)
-          → (c : HostContents) → A c → IsStreamed c log (ports_of carry.stay port s) s.table lines
-          → IsStreamed c (GotPacket (packet payload) ∷ log) (ports_of carry.stay port t) s.table lines
+          → (c : HostContents) → A c → IsStreamed c log (ports_of carry.since port s) s.table lines
+          → IsStreamed c (GotPacket (packet payload) ∷ log) (ports_of carry.since port t) s.table lines
       passes t A unserved payload log was fair whole c is x =
           let y = unserved payload log c was.fits is x in
-          unknown_streams c log (ports_of carry.stay port t) s.table lines y.0 was.fits.sound (packet payload) whole (fair_before (packet payload) log fair) fair none y.1
+          unknown_streams c log (ports_of carry.since port t) s.table lines y.0 was.fits.sound (packet payload) whole (fair_before (packet payload) log fair) fair none y.1
 
       replied : (t : DeviceState) (v : Verdict) → (t.failed ≡ s.failed) × (t.chain ≡ s.chain) × (t.cid ≡ s.cid) × (t.overrun ≡ s.overrun)
           × (t.table ≡ s.table) × (t.clean ≡ s.clean)
           × (t.replies ≡ s.replies ++ reply_to (flow_to_host h) h ∷ []) → is_reset h ≡ false → Unserved t (λ c. Unit {0}) → Heard (t, v) c
       replied t v (failed, chain_is, cid, overrun, table, clean, replies) plain unserved = quiet t v c failed chain_is (λ payload log was fair whole.
           rw (cid, overrun, table, clean, replies) (replies_to carry first port s (packet payload) log was fair wire whole kept none plain))
-          (λ payload log was fair whole few c x. subst (λ (u : Table DeviceConnection). IsStreamed c (GotPacket (packet payload) ∷ log) (ports_of carry.stay port t) u lines)
+          (λ payload log was fair whole few c x. subst (λ (u : Table DeviceConnection). IsStreamed c (GotPacket (packet payload) ∷ log) (ports_of carry.since port t) u lines)
           (sym table) (passes t (λ c. Unit {0}) unserved payload log was fair whole c tt x)) tells
 
       -- The REQUEST is the first packet of its flow.
@@ -411,15 +411,15 @@ module _ (carry : Carried) (lines : List Handshake) (first port : ℕ) (s : Devi
           × (t.cid ≡ s.cid) × (t.overrun ≡ s.overrun) × (t.table ≡ s.table) × (t.clean ≡ s.clean) × (t.replies ≡ s.replies ++ reply_to (flow_to_host h) h ∷ []) → is_reset h ≡ false
           → HostMoves faults (IsDialed path a) f c d
           → Unserved t (IsDialed path a)
-          → ((g : HostContents) (log : Log) → IsStreamed g log (ports_of carry.stay port t) s.table lines → IsStreamed (f g) log (ports_of carry.stay port t) s.table lines) → Heard (t, verdict.Rst why.NotLive) d
+          → ((g : HostContents) (log : Log) → IsStreamed g log (ports_of carry.since port t) s.table lines → IsStreamed (f g) log (ports_of carry.since port t) s.table lines) → Heard (t, verdict.Rst why.NotLive) d
       dials path a d f t faults (failed, chain_is, cid, overrun, table, clean, replies) plain made unserved carries =
           calls t (verdict.Rst why.NotLive) c d faults (IsDialed path a) f failed chain_is (λ payload log was fair whole.
           rw (cid, overrun, table, clean, replies) (replies_to carry first port s (packet payload) log was fair wire whole kept none plain))
-          (λ payload log was fair whole few g is x. subst (λ (u : Table DeviceConnection). IsStreamed (f g) (GotPacket (packet payload) ∷ log) (ports_of carry.stay port t) u lines)
+          (λ payload log was fair whole few g is x. subst (λ (u : Table DeviceConnection). IsStreamed (f g) (GotPacket (packet payload) ∷ log) (ports_of carry.since port t) u lines)
           (sym table) (carries g (GotPacket (packet payload) ∷ log) (passes t (IsDialed path a) unserved payload log was fair whole g is x))) made tells
 
       -- No listener is at the path.
-      unheard : (g : HostContents) → dialed.Refused ≡ dial_answer (path_of s.base h.dst_port) g → is_heard (heard_at g (ports_of carry.stay port s)).serving (flow_to_host h) ≡ false
+      unheard : (g : HostContents) → dialed.Refused ≡ dial_answer (path_of s.base h.dst_port) g → is_heard (heard_at g (ports_of carry.since port s)).serving (flow_to_host h) ≡ false
       unheard g is = grind (arith, common_steps)
 
       abbrev path : List ℕ
@@ -433,17 +433,17 @@ module _ (carry : Carried) (lines : List Handshake) (first port : ℕ) (s : Devi
           (λ payload log was fair whole. opens carry first port s (packet payload) log was fair wire whole kept none stream request kind place)
           (λ payload log was fair whole few g is x.
           subst (λ (n : ℕ). IsStreamed (after_dial (flow_to_host h) (dialed.Stream n) g) (GotPacket (packet payload) ∷ log)
-          (ports_of carry.stay port (with_dialed (flow_to_host h) h n s)) (with_dialed (flow_to_host h) h n s).table lines) (sym (dialed_id path stream g (sym is)))
-          (dial_host g log (ports_of carry.stay port s) s.table lines x was.fits.sound (packet payload) fair request (whole.none (request_empty (packet payload) request)) none h))
+          (ports_of carry.since port (with_dialed (flow_to_host h) h n s)) (with_dialed (flow_to_host h) h n s).table lines) (sym (dialed_id path stream g (sym is)))
+          (dial_host g log (ports_of carry.since port s) s.table lines x was.fits.sound (packet payload) fair request (whole.none (request_empty (packet payload) request)) none h))
           made tells
       dial_by dialed.Refused d made outside plain request kind place = dials path dialed.Refused d called (with_reply (reply_to (flow_to_host h) h) s) false
-          (refl, refl, refl, refl, refl, refl, refl) plain made (λ payload log g fits is x. (x, unheard_lacks (heard_at g (ports_of carry.stay port s)).serving (packet payload) log (unheard g is)))
-          (λ g log x. called_host g log (ports_of carry.stay port s) s.table lines x)
+          (refl, refl, refl, refl, refl, refl, refl) plain made (λ payload log g fits is x. (x, unheard_lacks (heard_at g (ports_of carry.since port s)).serving (packet payload) log (unheard g is)))
+          (λ g log x. called_host g log (ports_of carry.since port s) s.table lines x)
       dial_by dialed.Failed d made outside plain request kind place = dials path dialed.Failed d after_failed (with_reply (reply_to (flow_to_host h) h) (with_fault s)) true
           (refl, refl, refl, refl, refl, refl, refl) plain made (λ payload log g fits is x. (
-            faulted_streams carry.stay port s g log lines fits x,
-            lost_lacks (heard_at g (ports_of carry.stay port (with_fault s))).serving (packet payload) log (faulted_lost carry.stay s),
-          )) (λ g log x. failed_host g log (ports_of carry.stay port (with_fault s)) s.table lines x)
+            faulted_streams carry.since port s g log lines fits x,
+            lost_lacks (heard_at g (ports_of carry.since port (with_fault s))).serving (packet payload) log (faulted_lost carry.since.stays s),
+          )) (λ g log x. failed_host g log (ports_of carry.since port (with_fault s)) s.table lines x)
 
       -- The table has no place: it gave as many slots as it has room, or all of them.
       no_slot : IsFitState s → s.table.room ≡ DEVICE_CONNECTIONS → has_place s.table ≡ false → nat_lt s.table.given s.table.room ≡ false
@@ -469,25 +469,25 @@ module _ (carry : Carried) (lines : List Handshake) (first port : ℕ) (s : Devi
       unknown =
           keeps_if asking Heard (is_reset h) _ _ c (λ is. quiet s verdict.Ignore c refl refl (λ payload log was fair whole. ignores_it carry first port s
           (packet payload) log was fair wire whole kept none is) (λ payload log was fair whole few c x. passes s (λ c. Unit {0}) (λ payload log c fits one x.
-          (x, none_lacks (heard_at c (ports_of carry.stay port s)).serving (packet payload) log (reset_asks is))) payload log was fair whole c tt x) tells) (λ plain.
+          (x, none_lacks (heard_at c (ports_of carry.since port s)).serving (packet payload) log (reset_asks is))) payload log was fair whole c tt x) tells) (λ plain.
           keeps_if asking Heard (is_of Stream h && (h.op == 1)) _ _ c (λ asks.
           keeps_if asking Heard (is_assigned h.dst_port) _ _ c (λ mine. refused_keeps plain (λ payload log c fits one x.
-          (x, own_lacks (heard_at c (ports_of carry.stay port s)).serving (packet payload) log (own_flow mine)))) (λ outside.
+          (x, own_lacks (heard_at c (ports_of carry.since port s)).serving (packet payload) log (own_flow mine)))) (λ outside.
           keeps_if asking Heard (has_place s.table) _ _ c
           (λ place. (tt, λ a d made. dial_by a d made outside plain (asked_by asks) (of_stream asks) place)) (λ full. refused_keeps plain (λ payload log c fits one x.
-          (x, full_lacks (heard_at c (ports_of carry.stay port s)).serving (packet payload) log (no_slot fits x.streams.slots.0 full))))))
+          (x, full_lacks (heard_at c (ports_of carry.since port s)).serving (packet payload) log (no_slot fits x.streams.slots.0 full))))))
           (λ other. replied (with_reply (reply_to (flow_to_host h) h) s) (verdict.Rst (unknown_why h)) (refl, refl, refl, refl, refl, refl, refl) plain (λ payload log c fits one x.
-          (x, odd_lacks (heard_at c (ports_of carry.stay port s)).serving (packet payload) log other))))
+          (x, odd_lacks (heard_at c (ports_of carry.since port s)).serving (packet payload) log other))))
 
   pub packet_keeps : (c : Situation) → Tells carry.fairly Came c → Keeps Heard (on_packet chain h s) c
   packet_keeps c tells =
       keeps_if asking Heard (is_dropped Device s.cid h) _ _ c (λ is. quiet (record s { dropped = counted s.dropped }) verdict.Ignore c refl refl
       (λ payload log was fair whole. drops_it carry first port s (packet payload) log was fair wire whole is) (λ payload log was fair whole few g x.
       let t : DeviceState = record s { dropped = counted s.dropped } in
-      passes_streams g log (ports_of carry.stay port t) s.table lines
-      (lost_streams g log (ports_of carry.stay port s) s.table lines x was.fits.sound (ports_of carry.stay port t) refl refl refl refl (dropped_lost carry.stay s))
+      passes_streams g log (ports_of carry.since port t) s.table lines
+      (lost_streams g log (ports_of carry.since port s) s.table lines x was.fits.sound (ports_of carry.since port t) refl refl refl refl refl (dropped_lost carry.since.stays s))
       was.fits.sound (packet payload) whole (fair_before (packet payload) log fair) fair (idle payload log was fair few is) (no_asking payload log was fair)
-      (lost_lacks (heard_at g (ports_of carry.stay port t)).serving (packet payload) log (dropped_lost carry.stay s))) tells) (λ kept.
+      (lost_lacks (heard_at g (ports_of carry.since port t)).serving (packet payload) log (dropped_lost carry.since.stays s))) tells) (λ kept.
       keeps_some asking Heard (entry_of s.table (flow_to_host h)) (on_unknown h s)
       (λ e. bind (on_known (verdict_of e.value.end h) chain h e s) (λ t. Done (t, verdict_of e.value.end h))) c
       (λ none. unknown kept none c tells) (λ e is.

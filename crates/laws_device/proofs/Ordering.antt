@@ -11,6 +11,7 @@ use Rattle.vs_device_parts.specs.Calls.{Accept, Allows, Answer, Call, CloseStrea
 use Rattle.vs_device_parts.specs.{Playing.{Runs}, State.{DeviceState, new_device}, Turns.{open_of}}
 use Rattle.laws_device.proofs.{Carrying.{StreamedOver, With}, Chains.{Among, alone, alone_so}, Keeping.{Keeps, asking, keeps_end}, Seats.Carried}
 use Rattle.laws_device.proofs.{Turning.{label_keeps, new_with}, Walk.Keeping.keeps_some}
+use Rattle.laws_device.specs.Carried.Streamed.{lasting}
 use Rattle.laws_device.specs.{Honest.{IsFitFlow, IsFresh, ends_of_state, port_after}, Told.{IsToldWith}}
 use Rattle.vs_proxy_parts.specs.State.{Handshake}
 use Rattle.laws_tables.specs.Steps as steps
@@ -19,7 +20,7 @@ use Rattle.laws_tables.specs.Steps as steps
 abbrev pub told : Carried
 told = record {
   ok = ⊥;
-  stay = true;
+  since = lasting false;
   others = λ held. held ≡ [];
   asks = λ f. Unit {0};
   of_host = λ f host. tt;

@@ -5,7 +5,7 @@ use Rattle.vs_flow.specs.{declared.flow.Flow.Flow, Table.Table}
 use Rattle.vs_limits.specs.declared.TheConstants.{HOST_CID}
 use Rattle.vs_page.specs.{Log.{flow_got, Device, Log, packets_put}, Open.is_dropped, declared.log.LogEntry.{LogEntry, TheVariants.GotPacket}, Fair.IsFairLog, Held.FitsWire}
 use Rattle.laws_tables.{specs.{Steps.HasEnd, Both.{Asks, Opens, Seat, Step, after}, Ends.Ends, Matches.Matches}, proofs.Going.MayDo}
-use Rattle.laws_device.{specs.{Carried.Streamed.gives, Honest.{IsFit, ends_of_state, ends_with}}, proofs.Sure.{Given, Good}}
+use Rattle.laws_device.{specs.{Carried.Streamed.{Since, gives}, Honest.{IsFit, ends_of_state, ends_with}}, proofs.Sure.{Given, Good}}
 use Rattle.laws_history.specs.declared.packet.Packet.{Packet}
 use Rattle.vs_ring_port.specs.{Chains.Held, EndLog.EndLog}
 use Rattle.vs_replies.specs.declared.Reply.{Reply}
@@ -31,12 +31,12 @@ AllFit (p ∷ ps) = FitsWire p.header × AllFit ps
 abbrev pub PutsFit : Log → Type 0
 PutsFit log = AllFit (packets_put log)
 
--- What is carried: whether the host's streams are told of, and whether its listeners stay as they are; which other chains may be held; which
+-- What is carried: whether the host's streams are told of, and what is known of it since the proxy has it; which other chains may be held; which
 -- flows the device may ask for, those with the host among them; and a fact of the seat that each step keeps. Where the log is plain, which each
 -- one before it then was, no payload was dropped that a stream is to be given. It is so of honest rings alone where it is of any.
 pub record Carried : Type 1 where
   pub ok : Type 0
-  pub stay : Bool
+  pub since : Since
   pub others : List Held → Type 0
   pub asks : Flow → Type 0
   pub of_host : (f : Flow) → f.peer ≡ HOST_CID → asks f

@@ -46,7 +46,7 @@ module _ (carry : Carried) (lines : List Handshake) (first port : ℕ) where
 
   -- A step that puts and gets nothing, without a call on the host and with one.
   pub changed : (s t : DeviceState) → t.chain ≡ s.chain → t.failed ≡ s.failed → (IsFitState s → Changes carry port s t)
-      → (IsFitState s → (h : HostContents) (log : Log) → IsStreamed h log (ports_of carry.stay port s) s.table lines → IsStreamed h log (ports_of carry.stay port t) t.table lines) → (c : Situation)
+      → (IsFitState s → (h : HostContents) (log : Log) → IsStreamed h log (ports_of carry.since port s) s.table lines → IsStreamed h log (ports_of carry.since port t) t.table lines) → (c : Situation)
       → With carry lines first port s c → With carry lines first port t c
   changed s t chain failed step carries c holds = (
     subst (λ (o : Option Chain). IfSome o IsRxChain) (sym chain) holds.0,
@@ -57,7 +57,7 @@ module _ (carry : Carried) (lines : List Handshake) (first port : ℕ) where
 
   pub called_with : (s t : DeviceState) → t.chain ≡ s.chain → t.failed ≡ s.failed → (IsFitState s → Changes carry port s t) → (failed : Bool)
       (A : HostContents → Type 0) (f : HostContents → HostContents)
-      → (IsFitState s → (h : HostContents) (log : Log) → A h → IsStreamed h log (ports_of carry.stay port s) s.table lines → IsStreamed (f h) log (ports_of carry.stay port t) t.table lines) → (c d : Situation)
+      → (IsFitState s → (h : HostContents) (log : Log) → A h → IsStreamed h log (ports_of carry.since port s) s.table lines → IsStreamed (f h) log (ports_of carry.since port t) t.table lines) → (c d : Situation)
       → HostMoves failed A f c d → With carry lines first port s c → With carry lines first port t d
   called_with s t chain failed step faults A f carries c d made holds = (
     subst (λ (o : Option Chain). IfSome o IsRxChain) (sym chain) holds.0,
@@ -106,8 +106,8 @@ module _ (carry : Carried) (lines : List Handshake) (first port : ℕ) where
   cut_with e s t there chain failed old step c d closes holds =
       let u : DeviceState = with_connection e.slot (cut_off e.value) s in
       seat_changed s t (Streamed u) chain failed step d (closed_with carry first port s e.value c d lines s u
-      (λ shut fits h log x. cuts_streams h log (ports_of carry.stay port s) s.table lines x fits.sound e there (old fits) shut)
-      (λ fits h log x. cut_host h log (ports_of carry.stay port s) s.table lines x fits.sound e there (sym (old fits))) closes holds)
+      (λ shut fits h log x. cuts_streams h log (ports_of carry.since port s) s.table lines x fits.sound e there (old fits) shut)
+      (λ fits h log x. cut_host h log (ports_of carry.since port s) s.table lines x fits.sound e there (sym (old fits))) closes holds)
 
   -- A stage that goes on, and one that may be over.
   abbrev pub Open : Filling → Situation → Type 0

@@ -133,7 +133,7 @@ module _ (carry : Carried) (lines : List Handshake) (first port : ℕ) where
                     seated = carry.step (PutsEvent 0) (seat port s l.entries) refl tt (λ all. all) p.seated;
                   },
                   streams_go carry first lines lines port port s s l.entries (PutEvent 0 ∷ l.entries) (carry.before first (PutEvent 0) l.entries)
-                      (λ h few x. event_streams h l.entries 0 (ports_of carry.stay port s) s.table lines x) o both.1,
+                      (λ h few x. event_streams h l.entries 0 (ports_of carry.since port s) s.table lines x) o both.1,
                 ),
           )) tells),
     )
@@ -209,15 +209,15 @@ module _ (carry : Carried) (lines : List Handshake) (first port : ℕ) where
         called_with carry lines first port w.state (with_connection e.slot (after_written n e.value) w.state) refl refl
         (λ fits. writes carry port w.state fits e there n made.1 (begun fits)) false (IsWritten e.value.stream (length (to_write e.value)) (write.Took n))
         (after_write e.value.stream (to_write e.value) (write.Took n))
-        (λ fits h log is x. writes_streams h log (ports_of carry.stay port w.state) w.state.table lines x fits.sound e there (begun fits) n made.1) c d made.0 holds
+        (λ fits h log is x. writes_streams h log (ports_of carry.since port w.state) w.state.table lines x fits.sound e there (begun fits) n made.1) c d made.0 holds
     answered_keeps write.Again c d made holds =
         called_with carry lines first port w.state w.state refl refl (λ fits. same carry port w.state fits) false
-        (IsWritten e.value.stream (length (to_write e.value)) write.Again) called (λ fits h log is x. called_host h log (ports_of carry.stay port w.state) w.state.table lines x) c d made.0 holds
+        (IsWritten e.value.stream (length (to_write e.value)) write.Again) called (λ fits h log is x. called_host h log (ports_of carry.since port w.state) w.state.table lines x) c d made.0 holds
     answered_keeps write.Closed c d made holds =
         let t : DeviceState = with_connection e.slot (after_shut 1 w.state.now e.value) w.state in
         called_with carry lines first port w.state t refl refl (λ fits. shuts carry port w.state fits e there 1 w.state.now (begun fits)) false
-        (IsWritten e.value.stream (length (to_write e.value)) write.Closed) called (λ fits h log is x. called_host h log (ports_of carry.stay port t) t.table lines
-        (shuts_streams h log (ports_of carry.stay port w.state) w.state.table lines x fits.sound e 1 w.state.now there (begun fits))) c d made.0 holds
+        (IsWritten e.value.stream (length (to_write e.value)) write.Closed) called (λ fits h log is x. called_host h log (ports_of carry.since port t) t.table lines
+        (shuts_streams h log (ports_of carry.since port w.state) w.state.table lines x fits.sound e 1 w.state.now there (begun fits))) c d made.0 holds
     answered_keeps write.Failed c d made holds =
         keeps_then Now WritingWith (closing e cut_off (with_fault w.state)) (λ s. Done (record w { state = s })) d
         (closing_keeps Now e cut_off (with_fault w.state) d (λ x closes.
@@ -225,7 +225,7 @@ module _ (carry : Carried) (lines : List Handshake) (first port : ℕ) where
         (λ fits. cuts carry port (with_fault w.state) fits e there (begun fits)) d x closes
         (faulted carry lines first port w.state d (called_with carry lines first port w.state w.state refl refl (λ fits. same carry port w.state fits) true
         (IsWritten e.value.stream (length (to_write e.value)) write.Failed) after_failed
-        (λ fits h log is y. failed_host h log (ports_of carry.stay port w.state) w.state.table lines y) c d made.0 holds)))) (λ s x kept. kept)
+        (λ fits h log is y. failed_host h log (ports_of carry.since port w.state) w.state.table lines y) c d made.0 holds)))) (λ s x kept. kept)
 
   pub write_keeps_all : (e : DeviceEntry) (w : Writing) → Contains w.state.table.entries e → (c : Situation) → WritingWith w c
       → Keeps WritingWith (write_pending e w) c
@@ -247,8 +247,8 @@ module _ (carry : Carried) (lines : List Handshake) (first port : ℕ) where
           subst (λ (n : ℕ). Now (with_connection n v w.state) d) same
           (called_with carry lines first port w.state (with_connection e.slot v w.state) refl refl
           (λ fits. unseen carry port w.state fits e there v refl (shut_fits e w.state fits there)) false (λ h. Unit {0}) (after_shut_write e.value.stream)
-          (λ fits h log any x. shut_write_host e.value.stream h log (ports_of carry.stay port w.state) (with_value w.state.table e.slot v) lines
-          (ends_streams h log (ports_of carry.stay port w.state) w.state.table lines x fits.sound e there v refl refl refl refl refl refl (λ on. on) (λ on. on))) c d made
+          (λ fits h log any x. shut_write_host e.value.stream h log (ports_of carry.since port w.state) (with_value w.state.table e.slot v) lines
+          (ends_streams h log (ports_of carry.since port w.state) w.state.table lines x fits.sound e there v refl refl refl refl refl refl (λ on. on) (λ on. on))) c d made
           holds)
 
       if_out : DeviceEntry → DeviceTree Writing
@@ -270,7 +270,7 @@ module _ (carry : Carried) (lines : List Handshake) (first port : ℕ) where
 
   -- A reset. Of the streams is said what is left of them once those of the connections under these slots are closed.
   abbrev Closing : List ℕ → DeviceState → Fact
-  Closing rest s host log = carry.ok → carry.plain first log → ForSome host (λ h. IsClosing rest s.table h log (ports_of carry.stay port s) lines)
+  Closing rest s host log = carry.ok → carry.plain first log → ForSome host (λ h. IsClosing rest s.table h log (ports_of carry.since port s) lines)
 
   abbrev ClosingWith : List ℕ → DeviceState → Situation → Type 0
   ClosingWith rest s c = IsHeldBy carry (Closing rest s) first port s c
@@ -286,18 +286,18 @@ module _ (carry : Carried) (lines : List Handshake) (first port : ℕ) where
       (λ fits. unseen carry port s fits e (under_there s slot e under) (stream_closed e.value) refl
       (closed_fits e s fits (under_there s slot e under))) d
       (closed_held carry first port s e.value c d (Closing (slot ∷ rest) s) G
-      (λ shut fits o log x ok few. some_from o (λ h. IsClosing (slot ∷ rest) s.table h log (ports_of carry.stay port s) lines)
-      (λ h. IsClosing rest t.table h log (ports_of carry.stay port t) lines)
-      (λ h y. closing_was h log (ports_of carry.stay port s) s.table lines slot rest y e under shut) (x ok few))
+      (λ shut fits o log x ok few. some_from o (λ h. IsClosing (slot ∷ rest) s.table h log (ports_of carry.since port s) lines)
+      (λ h. IsClosing rest t.table h log (ports_of carry.since port t) lines)
+      (λ h y. closing_was h log (ports_of carry.since port s) s.table lines slot rest y e under shut) (x ok few))
       (λ still fits o n log exposes x ok few. some_after o n (λ h. Unit {0}) (after_close e.value.stream)
-      (λ h. IsClosing (slot ∷ rest) s.table h log (ports_of carry.stay port s) lines) (λ h. IsClosing rest t.table h log (ports_of carry.stay port t) lines) exposes
-      (λ h any y. closing_now h log (ports_of carry.stay port s) s.table lines slot rest y e under still) (x ok few)) closes holds)))
+      (λ h. IsClosing (slot ∷ rest) s.table h log (ports_of carry.since port s) lines) (λ h. IsClosing rest t.table h log (ports_of carry.since port t) lines) exposes
+      (λ h any y. closing_now h log (ports_of carry.since port s) s.table lines slot rest y e under still) (x ok few)) closes holds)))
     where
       passes : entry_under s.table slot ≡ None → ClosingWith rest s c
       passes under =
           fact_goes carry first port s (Closing (slot ∷ rest) s) (Closing rest s) (λ o l p x ok few.
-          some_from o (λ h. IsClosing (slot ∷ rest) s.table h l.entries (ports_of carry.stay port s) lines) (λ h. IsClosing rest s.table h l.entries (ports_of carry.stay port s) lines)
-          (λ h y. closing_passes h l.entries (ports_of carry.stay port s) s.table lines slot rest y under) (x ok few)) c holds
+          some_from o (λ h. IsClosing (slot ∷ rest) s.table h l.entries (ports_of carry.since port s) lines) (λ h. IsClosing rest s.table h l.entries (ports_of carry.since port s) lines)
+          (λ h y. closing_passes h l.entries (ports_of carry.since port s) s.table lines slot rest y under) (x ok few)) c holds
 
   close_all : (rest : List ℕ) (s : DeviceState) (c : Situation) → ClosingWith rest s c
       → Keeps (ClosingWith []) (for_each close_slot rest s) c
@@ -332,10 +332,10 @@ module _ (carry : Carried) (lines : List Handshake) (first port : ℕ) where
                   (carry.step (MakesReset cid) (seat port t l.entries) refl tt (λ all. all) p.seated);
             },
             streams_go carry first lines lines port port (after_reset cid t) (after_reset cid t) l.entries (Mark cid ∷ l.entries) (carry.before first (Mark cid) l.entries)
-                (λ h few x. mark_streams h l.entries cid (ports_of carry.stay port t) (emptied t.table) lines x) o
-                (λ ok few. some_from o (λ h. IsClosing [] t.table h l.entries (ports_of carry.stay port t) lines)
-                (λ h. IsStreamed h l.entries (ports_of carry.stay port t) (emptied t.table) lines)
-                (λ h x. all_closed h l.entries (ports_of carry.stay port t) t.table lines x) (both.1 ok few)),
+                (λ h few x. mark_streams h l.entries cid (ports_of carry.since port t) (emptied t.table) lines x) o
+                (λ ok few. some_from o (λ h. IsClosing [] t.table h l.entries (ports_of carry.since port t) lines)
+                (λ h. IsStreamed h l.entries (ports_of carry.since port t) (emptied t.table) lines)
+                (λ h x. all_closed h l.entries (ports_of carry.since port t) t.table lines x) (both.1 ok few)),
           ),
     )
 
@@ -359,8 +359,8 @@ module _ (carry : Carried) (lines : List Handshake) (first port : ℕ) where
         first_closing : ClosingWith (slots s.table) s c
         first_closing =
             fact_goes carry first port s (Streamed s) (Closing (slots s.table) s) (λ o l p x ok few.
-            some_from o (λ h. IsStreamed h l.entries (ports_of carry.stay port s) s.table lines) (λ h. IsClosing (slots s.table) s.table h l.entries (ports_of carry.stay port s) lines)
-            (λ h y. closing_from h l.entries (ports_of carry.stay port s) s.table lines y) (x ok few)) c holds
+            some_from o (λ h. IsStreamed h l.entries (ports_of carry.since port s) s.table lines) (λ h. IsClosing (slots s.table) s.table h l.entries (ports_of carry.since port s) lines)
+            (λ h y. closing_from h l.entries (ports_of carry.since port s) s.table lines y) (x ok few)) c holds
 
         by : (o : Option Failure) → Keeps ResetEnds (elim o [
           | Some f ↦ Done (s, Err f)

@@ -1,7 +1,7 @@
 -- The device's table by the log and by the host's streams.
 use Rattle.std.proofs.lemmas.Grind.{common_steps}
-use Rattle.laws_device.specs.Carried.Streamed.{Ports, ports_of, IsJoined, IsStreamed, Seen, client_waits, connection_in, connection_of, count_in, look, seen}
-use Rattle.laws_device.{specs.{Streams.{AreStreamedWith, IsTabledWith, has_open_stream, is_open_in, is_open_on}, Honest.IsWith}, proofs.Carried.Closing.{is_under, named}}
+use Rattle.laws_device.specs.Carried.Streamed.{Ports, ports_of, IsJoined, IsStreamed, Seen, client_waits, connection_in, connection_of, count_in, lasting, look, seen}
+use Rattle.laws_device.{specs.{Streams.{AreStreamedSince, IsTabledWith, has_open_stream, is_open_in, is_open_on}, Honest.IsWith}, proofs.Carried.Closing.{is_under, named}}
 use Rattle.laws_device.proofs.{Carried.{HostCalls.some_seen, Hosts.{label_here, label_there, there}}, Shown.{left_open, same_flows}}
 use Rattle.std.proofs.Common.{◌≡◌, ℕ, zero, suc, ◌+◌, ◌-◌, ◌<◌, ◌==◌, ◌&&◌, ◌||◌, Bool, true, false, cond, List, [], ◌∷◌, length, map, Contains, slice_get, slice_index_or, Option}
 use Rattle.std.{proofs.{Common.{Some, None, refl, sym, ap, subst, ◌∙◌, arith}, lemmas.{Bool.{Decides.nat_tests, and_parts}, List.Elements.All-contains}}}
@@ -169,9 +169,9 @@ module _ (c : HostContents) (log : Log) (port : Ports) (t : Table DeviceConnecti
       (new_open n.entry n.there n.new)
 
 -- By a ring that tells its log and a host that exposes its streams.
-pub tabled_with : (first port : ℕ) (lines : List Handshake) (s : DeviceState) (a : Situation) → IsWith first port s a.ring
-    → AreStreamedWith first port lines s a → IsTabledWith first s a
-tabled_with first port lines s a holds streams honest l is few h there f =
+pub tabled_with : (fresh : Bool) (first port : ℕ) (lines : List Handshake) (s : DeviceState) (a : Situation) → IsWith first port s a.ring
+    → AreStreamedSince fresh first port lines s a → IsTabledWith first s a
+tabled_with fresh first port lines s a holds streams honest l is few h there f =
     let x = streams honest l is few h there in
-    tied_by _ _ _ _ (left_open first port s l ((holds.1 l is).1 honest) f) (new_streams h l.entries (ports_of true port s) s.table lines x f)
-    (λ opened. ap (is_among f) (same_flows s.table.entries) ∙ open_among h l.entries (ports_of true port s) s.table lines x f opened)
+    tied_by _ _ _ _ (left_open first port s l ((holds.1 l is).1 honest) f) (new_streams h l.entries (ports_of (lasting fresh) port s) s.table lines x f)
+    (λ opened. ap (is_among f) (same_flows s.table.entries) ∙ open_among h l.entries (ports_of (lasting fresh) port s) s.table lines x f opened)

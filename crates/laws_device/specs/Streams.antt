@@ -6,7 +6,7 @@ use Rattle.vs_page.specs.{Fair.number_of, Log.{Device, Log, flow_got}, Open.{cid
 use Rattle.vs_proxy_parts.specs.State.{Handshake}
 use Rattle.vs_device_parts.specs.{Calls.Situation, State.DeviceState, Turns.table_shown}
 use Rattle.laws_tables.specs.Ends.{is_among, replied}
-use Rattle.laws_device.specs.{Honest.flows_shown, Carried.Streamed.{IsStreamed, count_in, ports_of}}
+use Rattle.laws_device.specs.{Honest.flows_shown, Carried.Streamed.{IsStreamed, count_in, lasting, ports_of}}
 
 -- No packet with payload of an open connection was dropped.
 abbrev pub AreHeard : ℕ → Log → Type 0
@@ -16,11 +16,15 @@ AreHeard first (GotPacket p ∷ log) =
 AreHeard first (_ ∷ log) = AreHeard first log
 
 -- Where an honest ring tells the log, none of whose connections missed payload, and the host exposes its streams, these took and gave just
--- the payload of their connections; these lines are being read.
-abbrev pub AreStreamedWith : ℕ → ℕ → List Handshake → DeviceState → Situation → Type 0
-AreStreamedWith first port lines s a =
+-- the payload of their connections; these lines are being read. It may be known that the proxy accepted all clients that ever were, but such as are closed:
+-- then these lines are those of all accepted ones whose streams have no label and aren't closed.
+abbrev pub AreStreamedSince : Bool → ℕ → ℕ → List Handshake → DeviceState → Situation → Type 0
+AreStreamedSince fresh first port lines s a =
     a.ring.honest ≡ true
-    → ForSome a.ring.log (λ l. AreHeard first l.entries → ForSome a.host (λ h. IsStreamed h l.entries (ports_of true port s) s.table lines))
+    → ForSome a.ring.log (λ l. AreHeard first l.entries → ForSome a.host (λ h. IsStreamed h l.entries (ports_of (lasting fresh) port s) s.table lines))
+
+abbrev pub AreStreamedWith : ℕ → ℕ → List Handshake → DeviceState → Situation → Type 0
+AreStreamedWith first port lines s a = AreStreamedSince false first port lines s a
 
 -- A stream of the host has this flow as its label, and the proxy hasn't closed it.
 abbrev pub is_open_in : StreamState → Bool

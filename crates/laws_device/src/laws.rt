@@ -14,7 +14,7 @@ ghost use Rattle.vs_device_parts.specs.{Calls.{Allows, DeviceTree, Ring, Situati
 ghost use Rattle.vs_device_parts.specs.{State.{DeviceEntry, DeviceState, new_device}, Streams.{Writing, pump_of, tick_of}, Transmitting.take_tx_of, Turns.{open_of, reset_of}};
 ghost use Rattle.vs_device_parts.specs.{Turns.table_shown, declared.answers.{Filled.Filled, Taken.Taken}};
 ghost use Rattle.laws_device.specs.{Named.Streams.FindsStreams, Honest.{Advertises, AgreesWith, IsClients, IsFitFlow, IsFresh, IsLeftOpen, IsWith, StaysPast, ends_of_state, port_after}};
-ghost use Rattle.laws_device.specs.{Packets.{HasAdded, HasTaken, HoldsLast, IsWholeAs, packet_with}, Streams.{AreStreamedWith, IsTabledWith, is_waiting_for_request}};
+ghost use Rattle.laws_device.specs.{Packets.{HasAdded, HasTaken, HoldsLast, IsWholeAs, packet_with}, Streams.{AreStreamedSince, IsTabledWith, is_waiting_for_request}};
 ghost use Rattle.laws_device.specs.Worked.{asked_log, client_flow, client_host};
 ghost use Rattle.vs_proxy_parts.specs.State.{Handshake};
 ghost use Rattle.vs_ring_port.specs.declared.device_ring.Next.TheVariants as next;
@@ -61,30 +61,30 @@ pub fn law_of_other_calls()
 /// no payload of an open connection is dropped for its CIDs. The streams with a flow as label are the flow's connections, in the order in which
 /// they got it; a guest may use a pair of ports again. The payload put on a connection is what was taken of its stream, behind the CONNECT line
 /// where there is one. A stream is given a prefix of its OK line and the payload got on its connection, and what is pending is what is between
-/// (Virtio 1.2, section 5.10.6).
+/// (Virtio 1.2, section 5.10.6). Where the proxy accepted all clients, each of their streams that has no label and isn't closed is one whose line is being read.
 pub fn law_of_streamed()
-    ensures take_tx { (first port : ℕ) (lines : List Handshake) (s : DeviceState) (a b : Situation) (x : DeviceState × Taken) → IsWith first port s a.ring
-        → AreStreamedWith first port lines s a → Runs (take_tx_of s) a x b → AreStreamedWith first port lines x.0 b }
-    ensures pay_event { (first port : ℕ) (lines : List Handshake) (s : DeviceState) (a b : Situation) (x : DeviceState × Result Bool Failure)
-        → IsWith first port s a.ring → AreStreamedWith first port lines s a → Runs (pay_event_of s) a x b
-        → AreStreamedWith first port lines x.0 b }
-    ensures fill_rx { (first port : ℕ) (lines : List Handshake) (s : DeviceState) (a b : Situation) (x : DeviceState × Result Filled Failure)
-        → IsWith first port s a.ring → AreStreamedWith first port lines s a → Runs (fill_rx_of s) a x b
-        → AreStreamedWith first port lines x.0 b }
-    ensures reset { (first port cid : ℕ) (lines : List Handshake) (s : DeviceState) (a b : Situation) (x : DeviceState × Result (Unit {0}) Failure)
-        → cid < 2 ^ 64 → IsWith first port s a.ring → AreStreamedWith first port lines s a → Runs (reset_of cid s) a x b
-        → AreStreamedWith first port lines x.0 b }
-    ensures tick { (first port now : ℕ) (lines : List Handshake) (s t : DeviceState) (a b : Situation) → IsWith first port s a.ring
-        → AreStreamedWith first port lines s a → Runs (tick_of now s) a t b → AreStreamedWith first port lines t b }
-    ensures pump_out { (first port : ℕ) (lines : List Handshake) (s : DeviceState) (a b : Situation) (w : Writing) → IsWith first port s a.ring
-        → AreStreamedWith first port lines s a → Runs (pump_of s) a w b → AreStreamedWith first port lines w.state b }
+    ensures take_tx { (fresh : Bool) (first port : ℕ) (lines : List Handshake) (s : DeviceState) (a b : Situation) (x : DeviceState × Taken) → IsWith first port s a.ring
+        → AreStreamedSince fresh first port lines s a → Runs (take_tx_of s) a x b → AreStreamedSince fresh first port lines x.0 b }
+    ensures pay_event { (fresh : Bool) (first port : ℕ) (lines : List Handshake) (s : DeviceState) (a b : Situation) (x : DeviceState × Result Bool Failure)
+        → IsWith first port s a.ring → AreStreamedSince fresh first port lines s a → Runs (pay_event_of s) a x b
+        → AreStreamedSince fresh first port lines x.0 b }
+    ensures fill_rx { (fresh : Bool) (first port : ℕ) (lines : List Handshake) (s : DeviceState) (a b : Situation) (x : DeviceState × Result Filled Failure)
+        → IsWith first port s a.ring → AreStreamedSince fresh first port lines s a → Runs (fill_rx_of s) a x b
+        → AreStreamedSince fresh first port lines x.0 b }
+    ensures reset { (fresh : Bool) (first port cid : ℕ) (lines : List Handshake) (s : DeviceState) (a b : Situation) (x : DeviceState × Result (Unit {0}) Failure)
+        → cid < 2 ^ 64 → IsWith first port s a.ring → AreStreamedSince fresh first port lines s a → Runs (reset_of cid s) a x b
+        → AreStreamedSince fresh first port lines x.0 b }
+    ensures tick { (fresh : Bool) (first port now : ℕ) (lines : List Handshake) (s t : DeviceState) (a b : Situation) → IsWith first port s a.ring
+        → AreStreamedSince fresh first port lines s a → Runs (tick_of now s) a t b → AreStreamedSince fresh first port lines t b }
+    ensures pump_out { (fresh : Bool) (first port : ℕ) (lines : List Handshake) (s : DeviceState) (a b : Situation) (w : Writing) → IsWith first port s a.ring
+        → AreStreamedSince fresh first port lines s a → Runs (pump_of s) a w b → AreStreamedSince fresh first port lines w.state b }
 {}
 
 /// Over such a ring and such a host the device's table has exactly the flows that the log left open and those of the host's open streams:
 /// those that have a flow as their label, until the device closes them.
 pub fn law_of_open_streams()
-    ensures table { (first port : ℕ) (lines : List Handshake) (s : DeviceState) (a : Situation) → IsWith first port s a.ring
-        → AreStreamedWith first port lines s a → IsTabledWith first s a }
+    ensures table { (fresh : Bool) (first port : ℕ) (lines : List Handshake) (s : DeviceState) (a : Situation) → IsWith first port s a.ring
+        → AreStreamedSince fresh first port lines s a → IsTabledWith first s a }
 {}
 
 /// A client's connection waits for its REQUEST to be put: it does while its stream is open and no REQUEST was put, and not once one was, or

@@ -1,12 +1,12 @@
 -- The buffer space of the connection of a flow, or of a stream's label, is raised: what a proxy keeps.
-use Rattle.std.proofs.{Common.{◌≡◌, ℕ, List, Option, refl, arith}, lemmas.Grind.common_steps}
+use Rattle.std.proofs.{Common.{◌≡◌, ℕ, Bool, List, Option, refl, arith}, lemmas.Grind.common_steps}
 use Rattle.vs_flow.specs.declared.flow.Flow.{Flow}
 use Rattle.vs_outside.specs.Host.{HostContents}
 use Rattle.vs_ring_port.specs.{Contents.RingContents, declared.device_ring.Chain.Chain}
 use Rattle.vs_device_parts.specs.{Calls.Situation, Growing.{after_grow, grown_by}, Playing.IsItsRing, State.{DeviceEntry, DeviceState, counters_of}}
 use Rattle.vs_proxy_parts.specs.{Growing.{after_flow_grow, after_label_grow, flow_grow_of}, Handshakes.streams_of, State.{ProxyState, with_device}}
 use Rattle.laws_device.{specs.Named.Streams.HasStreams, proofs.{Growing.{grow_keeps, grow_streamed, grow_streams, grow_with, grown_same}, Seats.Carried}}
-use Rattle.laws_proxy.specs.{Account.{Counts.counts_shown, Made.Made, Tied.AccountsFor, Told.AreAccounted}, Honest.{IsProxyStreamed, IsProxyWith}, Order.IsInOrder}
+use Rattle.laws_proxy.specs.{Account.{Counts.counts_shown, Made.Made, Tied.AccountsFor, Told.AreAccounted}, Honest.{IsProxyStreamedSince, IsProxyWith}, Order.IsInOrder}
 use Rattle.laws_proxy.proofs.{Account.Growing.{grow_accounted, grow_agrees}, Turning.Proxied}
 use Rattle.laws_device.proofs.Growing as one
 use Rattle.vs_device_parts.specs.declared.answers.Grown.TheVariants as rise
@@ -40,10 +40,10 @@ module _ (flow : Flow) (alloc : ℕ) (s : ProxyState) where
   flow_grow_with first c holds = grow_by (λ t. IsProxyWith first t c) holds
       (λ slot. (holds.0, grow_with slot alloc s.device first s.next_port c holds.1))
 
-  pub flow_grow_streamed : (first : ℕ) (a : Situation) → IsProxyWith first s a.ring → IsProxyStreamed first s a
-      → IsProxyStreamed first (after_flow_grow flow alloc s) a
-  flow_grow_streamed first a holds streams = grow_by (λ t. IsProxyStreamed first t a) streams
-      (λ slot. grow_streamed slot alloc s.device first s.next_port s.handshakes a holds.1 streams)
+  pub flow_grow_streamed : (fresh : Bool) (first : ℕ) (a : Situation) → IsProxyWith first s a.ring → IsProxyStreamedSince fresh first s a
+      → IsProxyStreamedSince fresh first (after_flow_grow flow alloc s) a
+  flow_grow_streamed fresh first a holds streams = grow_by (λ t. IsProxyStreamedSince fresh first t a) streams
+      (λ slot. grow_streamed slot alloc s.device fresh first s.next_port s.handshakes a holds.1 streams)
 
   pub flow_grow_order : (first : ℕ) (a : Situation) → IsInOrder first s a → IsInOrder first (after_flow_grow flow alloc s) a
   flow_grow_order first a is = grow_by (λ t. IsInOrder first t a) is (λ slot. record {

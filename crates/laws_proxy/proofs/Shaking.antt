@@ -2,10 +2,10 @@
 use Rattle.vs_ring_port.specs.EndLog.{EndLog}
 use Rattle.laws_device.proofs.{Seats.{AgreesBy, Carried}, Walk.Turning.{AfterAccept, AfterByte, IsOn, Shakes, keeps_accept_one, keeps_read_byte, keeps_tick_handshake}}
 use Rattle.laws_device.proofs.{Keeping.{Goes, Keeps, asking, keeps_weaker}, Carrying.{Fact, fact_called, fact_goes, IsHeldBy, IsToldBy, StreamedOver, With, streams_call}}
-use Rattle.laws_device.proofs.{Turning.label_keeps, Ringing.tells_weaker, Carried.{HostCalls.{accepted_host, closed_host, some_seen}, Hands.{ends_by, no_line, without_after}}}
-use Rattle.laws_device.proofs.Carried.{Hands.without_none, Opens.{hand_of, label_host, line_more, line_now, line_over, one_byte, dropped_host}, Changing.{called_host, goes_on}}
+use Rattle.laws_device.proofs.{Turning.label_keeps, Ringing.tells_weaker, Carried.{HostCalls.{accepted_host, some_seen}, Hands.{ends_by, no_line, without_after}}}
+use Rattle.laws_device.proofs.Carried.{Hands.without_none, Opens.{closed_over, hand_of, label_over, line_left, line_more, line_now, line_over, one_byte}, Changing.{called_host, goes_on}}
 use Rattle.laws_device.{proofs.{Carried.Lines.{line_ends, line_whole}, Named.Tables.{some_after, some_from}}, specs.Carried.Streamed.{Ports, ports_of, IsStreamed, Seen, has_line}}
-use Rattle.laws_device.specs.Carried.Streamed.{look, reading}
+use Rattle.laws_device.{specs.Carried.Streamed.{AreShakenBut, look, reading}, proofs.Carried.{Opens.dropped_host, Streamed.unfresh}}
 use Rattle.vs_proxy_parts.specs.{Handshakes.{next_after, next_flow, accept_one, read_byte, tick_handshake, with_line, without_stream}, State.{Handshake, Turning}}
 use Rattle.vs_flow.{proofs.Tables.accepted, specs.{Table.{refusal, Table}, declared.{flow.Flow.Flow, table.TableFault.TableFault}}}
 use Rattle.std.{proofs.Common.{◌≡◌, ℕ, ◌≤◌, Bool, true, false, List, ◌++◌, Some, None, sym, ap, subst, ◌≢◌, ◌∙◌, ◌∷◌, []}, specs.{List.All, Option.ForSome}}
@@ -22,9 +22,10 @@ use Rattle.vs_outside.specs.declared.host_net.Accepted.TheVariants as accepted
 use Rattle.vs_outside.specs.declared.host_net.StreamRead.TheVariants as read
 use Rattle.vs_uds.specs.declared.scan.Step.TheVariants as step
 
--- A line with a byte more, which may be whole: its stream is no other line's.
+-- A line with a byte more, which may be whole: its stream is no other line's, and needs a handshake until it is closed or has a label.
 pub record IsLineOn (hands : List Handshake) (port : Ports) (table : Table DeviceConnection) (id : ℕ) (line : List ℕ) (log : Log) (c : HostContents) : Type 0 where
-  pub over : IsStreamed c log port table (without_stream id hands)
+  pub over : IsStreamed c log (unfresh port) table (without_stream id hands)
+  pub left : port.fresh ≡ true → AreShakenBut id (look c) (without_stream id hands)
   pub here : look c id ≡ Some (reading line)
   pub away : All (λ h. h.stream ≢ id) (without_stream id hands)
   pub more : connect_step line ≡ step.More → IsStreamed c log port table hands
@@ -46,7 +47,7 @@ module _ (carry : Carried) (first : ℕ) where
 
     -- A call on the host that changes lines.
     calls : (lines : List Handshake) (failed : Bool) (A : HostContents → Type 0) (f : HostContents → HostContents)
-        → ((h : HostContents) (log : Log) → A h → IsStreamed h log (ports_of carry.stay port s) s.table hands → IsStreamed (f h) log (ports_of carry.stay port s) s.table lines)
+        → ((h : HostContents) (log : Log) → A h → IsStreamed h log (ports_of carry.since port s) s.table hands → IsStreamed (f h) log (ports_of carry.since port s) s.table lines)
         → (c d : Situation) → HostMoves failed A f c d → At hands port s c → At lines port s d
     calls lines failed A f step c d made holds = (
       holds.0,
@@ -59,7 +60,7 @@ module _ (carry : Carried) (first : ℕ) where
     leaves : (failed : Bool) (A : HostContents → Type 0) (c d : Situation) → HostMoves failed A called c d → At hands port s c
         → At hands port s d
     leaves failed A c d made holds =
-        calls hands failed A called (λ h log is x. called_host h log (ports_of carry.stay port s) s.table hands x) c d made holds
+        calls hands failed A called (λ h log is x. called_host h log (ports_of carry.since port s) s.table hands x) c d made holds
 
     -- A handshake ends, and its stream is closed.
     drops : (h : Handshake) (c : Situation) → IsOn h hands → At hands port s c
@@ -67,14 +68,14 @@ module _ (carry : Carried) (first : ℕ) where
     drops h c on holds = (
       tt,
       λ a d made. calls (without_stream h.stream hands) false (λ g. Unit {0}) (after_close h.stream) (λ g log any y.
-          dropped_host g log (ports_of carry.stay port s) s.table hands h.stream h y (hand_of (look g) h.stream hands h y.streams.lines on)) c d made holds,
+          dropped_host g log (ports_of carry.since port s) s.table hands h.stream h y (hand_of (look g) h.stream hands h y.streams.lines on)) c d made holds,
     )
 
     -- A client is accepted.
     accepted_by : (a : Accepted) (c d : Situation) → Allows Accept a c d → At hands port s c → AfterAccept asking At hands port s a d
     accepted_by (accepted.Stream stream) c d made holds =
         calls (hands ++ record { stream = stream; accepted_at = s.now; line = [] } ∷ []) false (λ h. accepted.Stream stream ≡ accept_answer h)
-        (after_accept (accepted.Stream stream)) (λ h log is x. accepted_host stream s.now h log (ports_of carry.stay port s) s.table hands (sym is) x) c d made holds
+        (after_accept (accepted.Stream stream)) (λ h log is x. accepted_host stream s.now h log (ports_of carry.since port s) s.table hands (sym is) x) c d made holds
     accepted_by accepted.None c d made holds = leaves false (λ h. accepted.None ≡ accept_answer h) c d made holds
     accepted_by accepted.Failed c d made holds =
         let kept = leaves true (λ h. accepted.Failed ≡ accept_answer h) c d made holds in (kept.0, faulted carry hands first port s d kept.1)
@@ -85,14 +86,14 @@ module _ (carry : Carried) (first : ℕ) where
       rest = without_stream stream hands
 
       abbrev LineOn : Fact
-      LineOn o log = carry.ok → carry.plain first log → ForSome o (IsLineOn hands (ports_of carry.stay port s) s.table stream line log)
+      LineOn o log = carry.ok → carry.plain first log → ForSome o (IsLineOn hands (ports_of carry.since port s) s.table stream line log)
 
       module _ (c : Situation) (above : ASSIGNED_FIRST ≤ port) (holds : IsHeldBy carry LineOn first port s c) where
         line_goes : connect_step line ≡ step.More → At hands port s c
         line_goes is = (
           above,
           fact_goes carry first port s LineOn (Streamed hands) (λ o l p x good plain.
-              some_from o (IsLineOn hands (ports_of carry.stay port s) s.table stream line l.entries) (λ h. IsStreamed h l.entries (ports_of carry.stay port s) s.table hands)
+              some_from o (IsLineOn hands (ports_of carry.since port s) s.table stream line l.entries) (λ h. IsStreamed h l.entries (ports_of carry.since port s) s.table hands)
               (λ h y. y.more is) (x good plain)) c holds,
         )
 
@@ -102,8 +103,8 @@ module _ (carry : Carried) (first : ℕ) where
           λ a d made. (
             above,
             fact_called carry first port s LineOn (Streamed rest) false (λ h. Unit {0}) (after_close stream) (λ o n l exposes p x good plain.
-                some_after o n (λ h. Unit {0}) (after_close stream) (IsLineOn hands (ports_of carry.stay port s) s.table stream line l.entries)
-                (λ h. IsStreamed h l.entries (ports_of carry.stay port s) s.table rest) exposes (λ h any y. closed_host stream h l.entries (ports_of carry.stay port s) s.table rest y.over
+                some_after o n (λ h. Unit {0}) (after_close stream) (IsLineOn hands (ports_of carry.since port s) s.table stream line l.entries)
+                (λ h. IsStreamed h l.entries (ports_of carry.since port s) s.table rest) exposes (λ h any y. closed_over stream h l.entries (ports_of carry.since port s) s.table rest y.over y.left
                 (λ k there. ap (λ (u : Seen). u.label) (sym (some_seen (reading line) k (sym y.here ∙ there)))) y.away) (x good plain)) c d made holds,
           ),
         )
@@ -135,12 +136,12 @@ module _ (carry : Carried) (first : ℕ) where
             (λ o n l p exposes x good plain.
             let t = taken guest flow decided given l p in
             some_after o n (λ h. Unit {0}) (after_label stream flow)
-            (IsLineOn hands (ports_of carry.stay port s) s.table stream line l.entries)
-            (λ h. IsStreamed h l.entries (ports_of carry.stay (next_after port) (with_client flow stream s)) (with_client flow stream s).table rest) exposes
-            (λ h any y. subst (λ (n : ℕ). IsStreamed (after_label stream flow h) l.entries (ports_of carry.stay n (with_client flow stream s)) (with_client flow stream s).table rest)
+            (IsLineOn hands (ports_of carry.since port s) s.table stream line l.entries)
+            (λ h. IsStreamed h l.entries (ports_of carry.since (next_after port) (with_client flow stream s)) (with_client flow stream s).table rest) exposes
+            (λ h any y. subst (λ (n : ℕ). IsStreamed (after_label stream flow h) l.entries (ports_of carry.since n (with_client flow stream s)) (with_client flow stream s).table rest)
             t.gives.port_is
-            (label_host h l.entries (ports_of carry.stay port s) s.table rest y.over stream flow line y.here y.away (y.ended guest decided).0
-            (y.ended guest decided).1 t.inside p.fits.sound (accepted s.table flow none).absent t.gives.next.port p.matches.flows.once)) (x good plain)) c none holds in (
+            (label_over h l.entries (ports_of carry.since port s) s.table rest y.over stream flow line y.here y.away (y.ended guest decided).0
+            (y.ended guest decided).1 t.inside p.fits.sound (accepted s.table flow none).absent t.gives.next.port p.matches.flows.once y.left)) (x good plain)) c none holds in (
               asks.0,
               λ a d made. (above_then port above, asks.1 a d made),
             )
@@ -148,19 +149,21 @@ module _ (carry : Carried) (first : ℕ) where
   module _ (h : Handshake) (hands : List Handshake) (port : ℕ) (s : DeviceState) (on : IsOn h hands) (c d : Situation)
       (holds : At hands port s c) where
     came : (n : ℕ) (bytes : List ℕ) (g : HostContents) (log : Log) → IsReadOf h.stream 1 (read.Got n, bytes) g
-        → IsStreamed g log (ports_of carry.stay port s) s.table hands
-        → IsLineOn (with_line h.stream (h.line ++ bytes) hands) (ports_of carry.stay port s) s.table h.stream (h.line ++ bytes) log (after_read h.stream (read.Got n) g)
+        → IsStreamed g log (ports_of carry.since port s) s.table hands
+        → IsLineOn (with_line h.stream (h.line ++ bytes) hands) (ports_of carry.since port s) s.table h.stream (h.line ++ bytes) log (after_read h.stream (read.Got n) g)
     came n bytes g log answers x =
         let hand = hand_of (look g) h.stream hands h x.streams.lines on in
         let same : without_stream h.stream (with_line h.stream (h.line ++ bytes) hands) ≡ without_stream h.stream hands =
         without_after h.stream (h.line ++ bytes) hands in
         record {
-          over = subst (λ (lines : List Handshake). IsStreamed (after_read h.stream (read.Got n) g) log (ports_of carry.stay port s) s.table lines) (sym same)
-              (line_over g log (ports_of carry.stay port s) s.table hands x h.stream n h hand bytes answers.1);
-          here = line_now g log (ports_of carry.stay port s) s.table hands x h.stream n h hand bytes answers.1;
+          over = subst (λ (lines : List Handshake). IsStreamed (after_read h.stream (read.Got n) g) log (unfresh (ports_of carry.since port s)) s.table lines) (sym same)
+              (line_over g log (ports_of carry.since port s) s.table hands x h.stream n h hand bytes answers.1);
+          left = λ fresh. subst (λ (lines : List Handshake). AreShakenBut h.stream (look (after_read h.stream (read.Got n) g)) lines) (sym same)
+              (line_left g log (ports_of carry.since port s) s.table hands x h.stream n h hand bytes answers.1 fresh);
+          here = line_now g log (ports_of carry.since port s) s.table hands x h.stream n h hand bytes answers.1;
           away = subst (λ (lines : List Handshake). All (λ (g : Handshake). g.stream ≢ h.stream) lines) (sym same)
               (without_none h.stream hands x.streams.lines.apart);
-          more = λ more. line_more g log (ports_of carry.stay port s) s.table hands x h.stream n h hand bytes answers.1 (goes_on (h.line ++ bytes) more);
+          more = λ more. line_more g log (ports_of carry.since port s) s.table hands x h.stream n h hand bytes answers.1 (goes_on (h.line ++ bytes) more);
           ended = λ guest decided.
               let one = one_byte h.stream n g (sym answers.0) in
               let with_byte : h.line ++ bytes ≡ h.line ++ one.0 ∷ [] = ap (λ (b : List ℕ). h.line ++ b) (answers.1 ∙ one.1) in
@@ -178,7 +181,7 @@ module _ (carry : Carried) (first : ℕ) where
         fact_called carry first port s (Streamed hands port s hands) (LineOn lines port s h.stream line) false
         (IsReadOf h.stream 1 (read.Got n, bytes)) (after_read h.stream (read.Got n)) (λ o k l exposes p x good plain.
         some_after o k (IsReadOf h.stream 1 (read.Got n, bytes)) (after_read h.stream (read.Got n))
-        (λ g. IsStreamed g l.entries (ports_of carry.stay port s) s.table hands) (IsLineOn lines (ports_of carry.stay port s) s.table h.stream line l.entries) exposes
+        (λ g. IsStreamed g l.entries (ports_of carry.since port s) s.table hands) (IsLineOn lines (ports_of carry.since port s) s.table h.stream line l.entries) exposes
         (λ g answers y. came n bytes g l.entries answers y) (x good plain)) c d made.0 holds.1 in
         record {
           more = line_goes lines port s h.stream line d holds.0 now;

@@ -1,6 +1,6 @@
 -- A turn, stage by stage, and a reset.
 use Rattle.laws_device.specs.Carried.Streamed.{ports_of}
-use Rattle.std.proofs.Common.{ℕ, ◌<◌, ◌^◌, false, List, [], ◌∷◌, map, Result, Ok, Err, ◌≤◌}
+use Rattle.std.proofs.Common.{Bool, ℕ, ◌<◌, ◌^◌, false, List, [], ◌∷◌, map, Result, Ok, Err, ◌≤◌}
 use Rattle.vs_contents.specs.CallTree.{Done, for_each}
 use Rattle.vs_limits.specs.declared.TheConstants.{ASSIGNED_FIRST}
 use Rattle.vs_ring_port.specs.{Contents.RingContents, declared.failure.Failure.Failure}
@@ -15,7 +15,7 @@ use Rattle.laws_device.proofs.{Turning.{new_with, pay_keeps, pump_keeps, reset_k
 use Rattle.laws_device.{proofs.{Transmitting.take_keeps, Seats.Carried, Walk.Turning.{KeptBy, keeps_turn_by}, Carried.Opens.first_dropped}, specs.Honest.IsFresh}
 use Rattle.vs_proxy_parts.specs.{Turns.{close_handshake, new_proxy_at, proxy_reset_of, reset_with, turn_of}, State.{Handshake, ProxyState, with_device}, declared.answers.Turn.Turn}
 use Rattle.vs_proxy_parts.specs.Handshakes.{streams_of}
-use Rattle.laws_proxy.{specs.Honest.{IsProxyWith, IsProxyStreamed}, proofs.Shaking.{At, shaking}}
+use Rattle.laws_proxy.{specs.Honest.{IsProxyWith, IsProxyStreamedSince}, proofs.Shaking.{At, shaking}}
 use Rattle.vs_outside.specs.Host.{after_close}
 use Rattle.laws_device.proofs.Deciding as deciding
 
@@ -65,7 +65,7 @@ module _ (carry : Carried) (first : ℕ) where
             holds.0,
             fact_called carry first port device (F (h ∷ hands)) (F hands) false (λ g. Unit {0}) (after_close h.stream) (λ o n l exposes p.
                 streams_call carry first (h ∷ hands) hands port port device device l.entries l.entries (λ few. few)
-                (λ g. Unit {0}) (after_close h.stream) (λ g any few x. first_dropped g l.entries (ports_of carry.stay port device) device.table h hands x) o n exposes) c d made holds.1,
+                (λ g. Unit {0}) (after_close h.stream) (λ g any few x. first_dropped g l.entries (ports_of carry.since port device) device.table h hands x) o n exposes) c d made holds.1,
           ),
         )
 
@@ -91,10 +91,10 @@ module _ (carry : Carried) (first : ℕ) where
 
 -- Nothing of the streams is carried.
 pub plain_proxied : (first : ℕ) (s : ProxyState) (c : Situation) → IsProxyWith first s c.ring → Proxied ring_only first s c
-plain_proxied first s c holds = (holds.0, held_with ⊥ s.handshakes first s.next_port s.device c holds.1 (λ no. absurd no))
+plain_proxied first s c holds = (holds.0, held_with false ⊥ s.handshakes first s.next_port s.device c holds.1 (λ no. absurd no))
 
-pub proxied_ring : (ok : Type 0) (first : ℕ) (s : ProxyState) (c : Situation) → Proxied (whole ok) first s c → IsProxyWith first s c.ring
-proxied_ring ok first s c holds = (holds.0, with_ring ok s.handshakes first s.next_port s.device c holds.1)
+pub proxied_ring : (fresh : Bool) (ok : Type 0) (first : ℕ) (s : ProxyState) (c : Situation) → Proxied (whole fresh ok) first s c → IsProxyWith first s c.ring
+proxied_ring fresh ok first s c holds = (holds.0, with_ring fresh ok s.handshakes first s.next_port s.device c holds.1)
 
 -- The device decided to send no more on a connection.
 module _ (first : ℕ) (k : Connection) (s : ProxyState) (a b : Situation) (holds : IsProxyWith first s a.ring) where
@@ -114,8 +114,9 @@ module _ (first : ℕ) (k : Connection) (s : ProxyState) (a b : Situation) (hold
   reset_past cid x fits = ends_past (proxy_reset_of cid s) x (λ carry. proxy_reset_keeps carry first cid s a fits)
 
 -- They are.
-pub streamed_proxied : (first : ℕ) (s : ProxyState) (c : Situation) → IsProxyWith first s c.ring → IsProxyStreamed first s c → Proxied ring_and_host first s c
-streamed_proxied first s c holds streams = (holds.0, held_with (Unit {0}) s.handshakes first s.next_port s.device c holds.1 (λ ok. streams))
+pub streamed_proxied : (fresh : Bool) (first : ℕ) (s : ProxyState) (c : Situation) → IsProxyWith first s c.ring → IsProxyStreamedSince fresh first s c
+    → Proxied (ring_and_host fresh) first s c
+streamed_proxied fresh first s c holds streams = (holds.0, held_with fresh (Unit {0}) s.handshakes first s.next_port s.device c holds.1 (λ ok. streams))
 
-pub proxied_streams : (first : ℕ) (s : ProxyState) (c : Situation) → Proxied ring_and_host first s c → IsProxyStreamed first s c
-proxied_streams first s c holds = with_streams (Unit {0}) s.handshakes first s.next_port s.device c holds.1 tt
+pub proxied_streams : (fresh : Bool) (first : ℕ) (s : ProxyState) (c : Situation) → Proxied (ring_and_host fresh) first s c → IsProxyStreamedSince fresh first s c
+proxied_streams fresh first s c holds = with_streams fresh (Unit {0}) s.handshakes first s.next_port s.device c holds.1 tt

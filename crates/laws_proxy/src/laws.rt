@@ -1,13 +1,13 @@
 //! Laws of the proxy over a ring that tells the device's log.
 
-ghost use Rattle.std.specs.{Option.ForSome, Prelude.{◌≡◌, ◌<◌, ◌≤◌, ◌^◌, ℕ, List, [], None, Result}};
+ghost use Rattle.std.specs.{Option.ForSome, Prelude.{◌≡◌, ◌<◌, ◌≤◌, ◌^◌, ℕ, Bool, List, [], None, Result}};
 ghost use Rattle.vs_limits.specs.declared.TheConstants.{ASSIGNED_FIRST};
 ghost use Rattle.vs_ring_port.specs.{Contents.RingContents, declared.failure.Failure.Failure};
 ghost use Rattle.vs_device_parts.specs.{Calls.Situation, Playing.{MayRun, Runs}};
 ghost use Rattle.laws_device.specs.{Named.Streams.FindsStreams, Dropped.IsCountedWith, Honest.{IsFresh, StaysPast}, Streams.IsTabledWith};
 ghost use Rattle.vs_flow.specs.Connection.{Connection};
 ghost use Rattle.vs_proxy_parts.specs.{Handshakes.streams_of, State.ProxyState, Turns.{new_proxy_at, proxy_reset_of, turn_of}, declared.answers.Turn.Turn};
-ghost use Rattle.laws_proxy.specs.{Honest.{IsProxyStreamed, IsProxyWith}, Order.IsInOrder, Resets.IsEmptied};
+ghost use Rattle.laws_proxy.specs.{Honest.{IsProxyStreamedSince, IsProxyWith}, Order.IsInOrder, Resets.IsEmptied};
 
 /// Over a ring that tells its log a turn and a reset leave the proxy with its ring: the device holds the one chain that it keeps for the
 /// next packet, and over an honest ring its connections are those that the log left. Each packet of a turn keeps the log fair, so a turn
@@ -33,16 +33,16 @@ pub fn law_of_turns()
 /// where no payload of an open connection is dropped for its CIDs: the payload put on a connection is what was taken of its stream, behind the
 /// CONNECT line where there is one; a stream was given a prefix of its OK line and the payload got on its connection, and what is pending is what
 /// is between. A guest may use a pair of ports again: the streams with a flow as label are its connections, in the order in which they got it. Of a
-/// client whose line is being read just this line was taken. The table has exactly the flows that the log left open and those of the host's open
-/// streams (Virtio 1.2, section 5.10.6).
+/// client whose line is being read just this line was taken; and where the proxy accepted all clients, each of their streams that has no label and isn't
+/// closed is one whose line is being read. The table has exactly the flows that the log left open and those of the host's open streams (Virtio 1.2, section 5.10.6).
 pub fn law_of_streamed()
-    ensures new { (cid : ℕ) (base : List ℕ) (port : ℕ) (a : Situation) → IsFresh a.ring → ForSome a.host (λ h. (h.streams ≡ []) × (h.labelled ≡ []))
-        → IsProxyStreamed cid (new_proxy_at cid base port) a }
-    ensures turn { (first size now : ℕ) (s : ProxyState) (a b : Situation) (x : ProxyState × Turn) → IsProxyWith first s a.ring
-        → IsProxyStreamed first s a → Runs (turn_of size now s) a x b → IsProxyStreamed first x.0 b }
-    ensures reset { (first cid : ℕ) (s : ProxyState) (a b : Situation) (x : ProxyState × Result (Unit {0}) Failure) → cid < 2 ^ 64
-        → IsProxyWith first s a.ring → IsProxyStreamed first s a → Runs (proxy_reset_of cid s) a x b → IsProxyStreamed first x.0 b }
-    ensures table { (first : ℕ) (s : ProxyState) (a : Situation) → IsProxyWith first s a.ring → IsProxyStreamed first s a
+    ensures new { (fresh : Bool) (cid : ℕ) (base : List ℕ) (port : ℕ) (a : Situation) → IsFresh a.ring → ForSome a.host (λ h. (h.streams ≡ []) × (h.labelled ≡ []))
+        → IsProxyStreamedSince fresh cid (new_proxy_at cid base port) a }
+    ensures turn { (fresh : Bool) (first size now : ℕ) (s : ProxyState) (a b : Situation) (x : ProxyState × Turn) → IsProxyWith first s a.ring
+        → IsProxyStreamedSince fresh first s a → Runs (turn_of size now s) a x b → IsProxyStreamedSince fresh first x.0 b }
+    ensures reset { (fresh : Bool) (first cid : ℕ) (s : ProxyState) (a b : Situation) (x : ProxyState × Result (Unit {0}) Failure) → cid < 2 ^ 64
+        → IsProxyWith first s a.ring → IsProxyStreamedSince fresh first s a → Runs (proxy_reset_of cid s) a x b → IsProxyStreamedSince fresh first x.0 b }
+    ensures table { (fresh : Bool) (first : ℕ) (s : ProxyState) (a : Situation) → IsProxyWith first s a.ring → IsProxyStreamedSince fresh first s a
         → IsTabledWith first s.device a }
 {}
 

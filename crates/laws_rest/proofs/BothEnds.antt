@@ -1,5 +1,5 @@
 -- Bytes of both ends: what each put came first at the other, and the streams are of the same connections.
-use Rattle.laws_device.specs.{Carried.Streamed.{ports_of, Ports, IsStreamed}, Streams.AreStreamedWith}
+use Rattle.laws_device.specs.{Carried.Streamed.{lasting, ports_of, Ports, IsStreamed}, Streams.AreStreamedWith}
 use Rattle.std.proofs.Common.{List, ap, subst, sym, true, ℕ, ◌∙◌, ◌≡◌, ◌≤◌}
 use Rattle.vs_flow.specs.{Connection.{Connection}, Flow.host_asks, Table.Table}
 use Rattle.laws_history.{specs.{declared.packet.Packet.Packet, History.{Side, gots, peer, puts}}}
@@ -57,6 +57,6 @@ pub carry_told : (first : ℕ) (d : DriverState) (c : RingContents) (p : ProxySt
     → AreStreamedWith first p.next_port p.handshakes p.device a → 1 ≤ (opened id).number
     → CarryBytes (opened id) (sent_to opened (opened id) journal) (received_by id journal) h
 carry_told first d c p a l m h first_id opened journal id told right streams some =
-    carry_id _ told.ends h (ports_of true p.next_port p.device) p.device.table p.handshakes
+    carry_id _ told.ends h (ports_of (lasting false) p.next_port p.device) p.device.table p.handshakes
     (streams told.device_honest m told.device_log told.heard h told.host)
     first_id opened journal (slots_of d) id (right told.driver_honest l told.driver_log) some

@@ -16,7 +16,7 @@ use Rattle.vs_device_parts.specs.{Playing.situation, State.DeviceEntry, Turns.ta
 use Rattle.vs_proxy_parts.specs.State.{ProxyState}
 use Rattle.laws_tables.{specs.{Ends.{ends_of, flows_of, is_among}, Drains.{receives, receives_in}}, proofs.Slots.{found_by, one_end}}
 use Rattle.laws_driver.{specs.{Honest.{IsFitEntry, end_in as driver_end, slots_of}, Carried.{Calls.{GuestCall, Journal, received_by, account_of}, Received.ReceivesOn}}, proofs.Carried.Receiving.keeps_receiving}
-use Rattle.laws_device.specs.{Honest.end_in as device_end, Streams.is_open_in, Carried.Streamed.{IsStreamed, connection_of, ports_of}}
+use Rattle.laws_device.specs.{Honest.end_in as device_end, Streams.is_open_in, Carried.Streamed.{IsStreamed, connection_of, lasting, ports_of}}
 use Rattle.laws_proxy.specs.Honest.{IsProxyStreamed}
 use Rattle.laws_rest.{specs.Rest.{ArePaired, over_half}, proofs.{Quiet.in_list, Waiting.{credit_there, unread_there}}}
 use Rattle.vs_credit.specs.Credit.{free_of, unread_of}
@@ -86,7 +86,7 @@ module _ (script : RunScript) (driver : DriverState) (end : Sight) (apps : List 
   abbrev journal : Journal
   journal = calls_of script bytes entries
 
-  pub on : IsStreamed h e.sight.log (ports_of true p.next_port p.device) p.device.table p.handshakes
+  pub on : IsStreamed h e.sight.log (ports_of (lasting false) p.next_port p.device) p.device.table p.handshakes
   on = streamed driver end p e settled h faults streams
 
   pub apart : HasApart driver
@@ -142,12 +142,12 @@ module _ (script : RunScript) (driver : DriverState) (end : Sight) (apps : List 
   -- The stream of an entry.
   of_its : (P : Stream → Type 0) (y : DeviceEntry) → Contains p.device.table.entries y → ForSome (stream_at y.value.stream h) P
       → OfOpen (connection_of y e.sight.log) h P
-  of_its = one_is h e.sight.log (ports_of true p.next_port p.device) p.device.table p.handshakes on device_fits still_open
+  of_its = one_is h e.sight.log (ports_of (lasting false) p.next_port p.device) p.device.table p.handshakes on device_fits still_open
 
   device_open : length (device_shown p.device) ≡ length (open_labels h)
   device_open =
       length-map p.device.table.entries (λ x. (x.flow, x.value.end.state))
-      ∙ as_many_open h e.sight.log (ports_of true p.next_port p.device) p.device.table p.handshakes on device_fits still_open
+      ∙ as_many_open h e.sight.log (ports_of (lasting false) p.next_port p.device) p.device.table p.handshakes on device_fits still_open
 
   guest_open : length (guest_shown driver) ≡ length (open_labels h)
   guest_open =
@@ -258,7 +258,7 @@ module _ (script : RunScript) (driver : DriverState) (end : Sight) (apps : List 
     id_open id x within named =
         let at = at_device x within in
         ap (λ (c : Connection). stream_open c h) (is_its id x within named)
-        ∙ stream_there h e.sight.log (ports_of true p.next_port p.device) p.device.table p.handshakes on device_fits still_open at.entry at.within
+        ∙ stream_there h e.sight.log (ports_of (lasting false) p.next_port p.device) p.device.table p.handshakes on device_fits still_open at.entry at.within
 
     -- One on which nothing is unread.
     all_dry : (id : ℕ) (x : DriverEntry) → Contains driver.table.entries x → x.value.id ≡ id → x.value.unread ≡ [] → is_at_end x.value.end ≡ false
@@ -297,7 +297,7 @@ module _ (script : RunScript) (driver : DriverState) (end : Sight) (apps : List 
         let its : Connection = current Device y.flow e.sight.log in
         let least_got : over_half ≤ length (payload_got Device its e.sight.log) = omega (arith, least, got) in
         let many : over_half ≤ length y.value.pending = omega (arith, least, exact) in
-        let still = to_read h e.sight.log (ports_of true p.next_port p.device) p.device.table p.handshakes on y at.within alive goes_on over_half many least_got in
+        let still = to_read h e.sight.log (ports_of (lasting false) p.next_port p.device) p.device.table p.handshakes on y at.within alive goes_on over_half many least_got in
         let some = subst (λ (i : ℕ). 1 ≤ (opened i).number) named (some_known x within) in
         let same : opened id ≡ its =
         ap opened (sym named) ∙ present_there x within ∙ ap (λ (f : Flow). current Device f e.sight.log) at.flow in
@@ -329,7 +329,7 @@ module _ (script : RunScript) (driver : DriverState) (end : Sight) (apps : List 
     -- One with an open stream is in the driver's table.
     pub entry_for : (c : Connection) → 1 ≤ c.number → stream_open c h ≡ true → (x : DriverEntry) × Contains driver.table.entries x × (opened x.value.id ≡ c)
     entry_for c some opens =
-        let there = entry_of_open h e.sight.log (ports_of true p.next_port p.device) p.device.table p.handshakes on device_fits c some opens in
+        let there = entry_of_open h e.sight.log (ports_of (lasting false) p.next_port p.device) p.device.table p.handshakes on device_fits c some opens in
         let y = there.0 in
         let among = among_entry device_end p.device.table.entries y there.1 in
         let found = entry_among driver_end y.flow driver.table.entries (settled.same_flows y.flow (settled.with_host Device y.flow among) ∙ among) in (
@@ -485,7 +485,7 @@ module _ (script : RunScript) (driver : DriverState) (end : Sight) (apps : List 
     -- Clients have their streams.
     pub client_there : (id : ℕ) → 1 ≤ (opened id).number → host_asks (opened id).flow ≡ true → HasStream (opened id) h
     client_there id some asks =
-        clients_stream h e.sight.log (ports_of true p.next_port p.device) p.device.table p.handshakes on (opened id) some asks (passed_there id)
+        clients_stream h e.sight.log (ports_of (lasting false) p.next_port p.device) p.device.table p.handshakes on (opened id) some asks (passed_there id)
 
     clients_run : AreClients opened (opened_all (length script) entries) h
     clients_run i d less = client_there _ (all_opened opened (length script) entries account.flows i d less).0
@@ -495,7 +495,7 @@ module _ (script : RunScript) (driver : DriverState) (end : Sight) (apps : List 
       where
         of : (o : Opened) → (1 ≤ (opened o.id).number) × ((opened o.id).flow ≡ o.flow) → host_asks (opened o.id).flow ≡ false
             → is_listened (path_of p.device.base (opened o.id).flow.host) h ≡ true → HasStream (opened o.id) h ⊎ (DEVICE_CONNECTIONS ≤ length h.labelled)
-        of o has asks heard = guests_stream h e.sight.log (ports_of true p.next_port p.device) p.device.table p.handshakes on (opened o.id) has.0 asks
+        of o has asks heard = guests_stream h e.sight.log (ports_of (lasting false) p.next_port p.device) p.device.table p.handshakes on (opened o.id) has.0 asks
             (passed_there o.id) heard (unlost p.device.faults p.device.dropped faultless undropped)
             (all_streams FIRST_CID end.log e.sight.log settled.at_rest.routed (to_device driver end p e settled))
 

@@ -18,7 +18,7 @@ use Rattle.vs_device_parts.specs.{Playing.situation, State.counters_of, Turns.ta
 use Rattle.vs_proxy_parts.specs.State.{ProxyState}
 use Rattle.laws_tables.{specs.Drains.is_same, proofs.Logs.same_connection}
 use Rattle.laws_driver.specs.{Honest.slots_of, Carried.{Calls.{GuestCall, Journal, account_of}, Received.ReceivedOn}}
-use Rattle.laws_device.{specs.{Streams.is_open_in, Carried.Streamed.{ports_of, seen as seen_in}}, proofs.Carried.Hosts.label_there}
+use Rattle.laws_device.{specs.{Streams.is_open_in, Carried.Streamed.{lasting, ports_of, seen as seen_in}}, proofs.Carried.Hosts.label_there}
 use Rattle.laws_rest.proofs.Hosts.{stream_seen}
 use Rattle.laws_proxy.specs.Honest.{IsProxyStreamed}
 use Rattle.laws_settled.specs.Settled.{IsSettled, IsSteady}
@@ -333,7 +333,7 @@ module _ (script : RunScript) (driver : DriverState) (end : Sight) (apps : List 
     stream_counts : (c : Connection) → 1 ≤ c.number → host_asks c.flow ≡ true → has_line opened lines c ≡ false → (s : Stream) → stream_of c h ≡ Some s
         → Contains counted c
     stream_counts c some assigned none s is =
-        let it = stream_seen h e.sight.log (ports_of true p.next_port p.device) p.device.table p.handshakes
+        let it = stream_seen h e.sight.log (ports_of (lasting false) p.next_port p.device) p.device.table p.handshakes
         (on script driver end apps entries bytes p e h faults run settled steady old stood all
         room same_apps same_entries polled told past heard polls still same_driver streams idle)
         c some s is in

@@ -11,7 +11,7 @@ use Rattle.vs_driver_parts.specs.State.{DriverState}
 use Rattle.vs_device_parts.specs.Playing.{situation}
 use Rattle.vs_ring_shared.specs.Sights.{DeviceSight, Sight, device_contents, device_log}
 use Rattle.vs_proxy_parts.specs.State.{ProxyState}
-use Rattle.laws_device.specs.{Streams.AreHeard, Carried.Streamed.{IsStreamed, ports_of}}
+use Rattle.laws_device.specs.{Streams.AreHeard, Carried.Streamed.{IsStreamed, lasting, ports_of}}
 use Rattle.laws_rest.proofs.{Standing.{AreKept, device_kept}, Hosts.wrote_is_put}
 use Rattle.laws_proxy.specs.Honest.{IsProxyStreamed}
 use Rattle.laws_settled.specs.Settled.{IsSettled}
@@ -66,10 +66,10 @@ module _ (d : DriverState) (driver : Sight) (p : ProxyState) (device : DeviceSig
       (settled.at_rest.no_reset Device) settled.at_rest.routed to_device)
 
   module _ (h : HostContents) (faults : ℕ) (streams : IsProxyStreamed FIRST_CID p (situation (device_contents device) (Some h) faults)) where
-    pub streamed : IsStreamed h device.sight.log (ports_of true p.next_port p.device) p.device.table p.handshakes
+    pub streamed : IsStreamed h device.sight.log (ports_of (lasting false) p.next_port p.device) p.device.table p.handshakes
     streamed = streams refl (device_log device) refl heard h refl
 
     pub wrote_there : (c : Connection) → 1 ≤ c.number → payload_got Driver c driver.log ≡ host_wrote c h
     wrote_there c some =
         sym (same_payload Driver driver.log device.sight.log to_driver c)
-        ∙ wrote_is_put h device.sight.log (ports_of true p.next_port p.device) p.device.table p.handshakes streamed c some
+        ∙ wrote_is_put h device.sight.log (ports_of (lasting false) p.next_port p.device) p.device.table p.handshakes streamed c some

@@ -1,21 +1,23 @@
 -- What a run began with, over its turns and where it comes to rest.
 use Rattle.std.proofs.lemmas.Grind.{common_steps}
 use Rattle.std.proofs.Common.{◌≡◌, ◌==◌, ◌-◌, ℕ, zero, suc, Bool, true, false, cond, List, [], ◌∷◌, Option, Some, None, refl, sym, ap, subst, ◌∙◌, arith, slice_get}
-use Rattle.std.{proofs.lemmas.{List.Elements.{All-cons, All-head, All-nil, All-tail}, Option.same_Some}, specs.{List.All, Option.option_map}}
+use Rattle.std.{proofs.lemmas.{List.Elements.{All-cons, All-head, All-nil, All-tail}, Option.same_Some}, specs.{List.All, Option.{ForSome, option_map}}}
 use Rattle.vs_flow.specs.{Connection.Connection, Table.Table, declared.flow.Flow.Flow}
 use Rattle.vs_limits.specs.declared.TheConstants.{ASSIGNED_FIRST, DEVICE_CONNECTIONS, FIRST_CID}
-use Rattle.vs_outside.specs.Host.{HostContents, Stream, is_waiting, stream_at}
+use Rattle.vs_outside.specs.{Host.{HostContents, Stream, is_waiting, stream_at}, HostProgram.is_closed}
 use Rattle.vs_page.specs.{Log.{Device, Driver, Log, events_put, flow_got, packets_got}, Open.{cid_of, is_dropped}, declared.log.LogEntry.TheVariants.{GotPacket, Mark}}
 use Rattle.vs_page.proofs.Flows.{same_self}
 use Rattle.vs_ring_port.specs.EndLog.{EndLog}
 use Rattle.vs_ring_shared.specs.Sights.{DeviceSight, Sight, device_contents, device_log}
 use Rattle.vs_driver_parts.specs.State.{DriverState}
 use Rattle.vs_device_parts.specs.{Calls.Situation, Playing.Runs, State.DeviceConnection}
-use Rattle.laws_device.{specs.Carried.Streamed.{IsStreamed, Ports, Seen, client_waits, look, ports_of, seen, seen_as}, proofs.Carried.Changing.no_labels}
+use Rattle.laws_device.specs.Carried.Streamed.{IsShaking, IsStreamed, Ports, Seen, client_waits, lasting, look, ports_of, seen, seen_as}
+use Rattle.laws_device.proofs.Carried.{Changing.no_labels, Hosts.there}
+use Rattle.laws_proxy.specs.Honest.{IsProxyStreamedSince}
 use Rattle.laws_rest.{specs.{Calm.resets_in, Rest.has_no_mark}, proofs.Standing.{AreKept, device_kept}}
 use Rattle.vs_proxy_parts.specs.{State.ProxyState, Turns.{new_proxy, turn_of}, declared.answers.Turn.Turn}
 use Rattle.laws_proxy.proofs.Ordered.{turn_streamed}
-use Rattle.laws_settled.{specs.{Begun.{DropsNone, IsBegun, IsKept, IsUnlabelled, Start, start_with}, Settled.{IsSettled, IsSteady}}, proofs.Tallying.{Drops, Tallies, turn_tallies}}
+use Rattle.laws_settled.{specs.{Begun.{AreUnaccepted, DropsNone, IsBegun, IsKept, IsUnlabelled, Start, start_with}, Settled.{IsSettled, IsSteady}}, proofs.Tallying.{Drops, Tallies, turn_tallies}}
 
 -- A HOST WITHOUT LABELS
 abbrev IsPlain : Stream → Type 0
@@ -24,29 +26,41 @@ IsPlain s = (s.label ≡ None) × (is_waiting s ≡ true → seen_as None s ≡ 
 abbrev SeenPlain : Seen → Type 0
 SeenPlain s = (s.label ≡ None) × (s.waiting ≡ true → s ≡ client_waits)
 
-plain_at : (xs : List Stream) (i : ℕ) (s : Stream) → slice_get xs i ≡ Some s → All IsPlain xs → IsPlain s
-plain_at [] i s is all = absurd cc
-plain_at (x ∷ xs) zero s is all = subst IsPlain (same_Some x s is) (All-head IsPlain x xs all)
-plain_at (x ∷ xs) (suc i) s is all = plain_at xs i s is (All-tail IsPlain x xs all)
+abbrev IsUnshaken : Stream → Type 0
+IsUnshaken s = s.by_client ≡ true → is_closed s ≡ false → is_waiting s ≡ true
+
+all_at : (P : Stream → Type 0) (xs : List Stream) (i : ℕ) (s : Stream) → slice_get xs i ≡ Some s → All P xs → P s
+all_at P [] i s is all = absurd cc
+all_at P (x ∷ xs) zero s is all = subst P (same_Some x s is) (All-head P x xs all)
+all_at P (x ∷ xs) (suc i) s is all = all_at P xs i s is (All-tail P x xs all)
+
+all_under : (P : Stream → Type 0) (xs : List Stream) (b : Bool) (i : ℕ) (s : Stream) → cond b None (slice_get xs i) ≡ Some s → All P xs → P s
+all_under P xs true i s is all = absurd cc
+all_under P xs false i s is all = all_at P xs i s is all
+
+-- What is accepted of a client has a label or is closed.
+none_shaking : (h : HostContents) → AreUnaccepted h → (id : ℕ) (s : Seen) → look h id ≡ Some s → IsShaking s → ⊥
+none_shaking h unaccepted id s is busy =
+    let st = there id h s is in
+    let client : st.stream.by_client ≡ true = ap (λ (y : Seen). y.by_client) st.is ∙ busy.client in
+    let still : is_closed st.stream ≡ false = ap (λ (y : Seen). y.closed) st.is ∙ busy.still in
+    let waits : is_waiting st.stream ≡ true = all_under IsUnshaken h.streams (id == 0) (id - 1) st.stream st.at unaccepted client still in
+    let both : true ≡ false = sym waits ∙ ap (λ (y : Seen). y.waiting) st.is ∙ busy.accepted in absurd cc
 
 seen_plain : (h : HostContents) (id : ℕ) (o : Option Stream) (s : Seen) → option_map (seen h id) o ≡ Some s → ((x : Stream) → o ≡ Some x → IsPlain x)
     → SeenPlain s
 seen_plain h id o s is plain = grind (arith, common_steps)
 
 module _ (h : HostContents) (unlabelled : IsUnlabelled h) where
-  there_plain : (b : Bool) (id : ℕ) (s : Stream) → cond b None (slice_get h.streams (id - 1)) ≡ Some s → IsPlain s
-  there_plain true id s is = absurd cc
-  there_plain false id s is = plain_at h.streams (id - 1) s is unlabelled.1
-
   plain : (id : ℕ) (s : Seen) → look h id ≡ Some s → SeenPlain s
-  plain id s is = seen_plain h id (stream_at id h) s is (λ x there. there_plain (id == 0) id x there)
+  plain id s is = seen_plain h id (stream_at id h) s is (λ x there. all_under IsPlain h.streams (id == 0) (id - 1) x there unlabelled.1)
 
   begins_streamed : (port : Ports) (t : Table DeviceConnection) → t.entries ≡ [] → (port.serving.given ≡ 0) × (port.serving.room ≡ DEVICE_CONNECTIONS)
-      → IsStreamed h [] port t []
-  begins_streamed port t empty slots =
+      → (port.fresh ≡ true → AreUnaccepted h) → IsStreamed h [] port t []
+  begins_streamed port t empty slots fresh =
       no_labels h port t empty slots unlabelled.0
       (λ id s k is label. let no : ◌≡◌ {A = Option Connection} None (Some k) = sym (plain id s is).0 ∙ label in absurd cc)
-      (λ id s is waits. (plain id s is).1 waits)
+      (λ id s is waits. (plain id s is).1 waits) (λ known. none_shaking h (fresh known))
 
 -- THE BEGINNING
 pub new_begun : (base : List ℕ) (a : Situation) (l : EndLog) → a.ring.log ≡ Some l → l.entries ≡ []
@@ -54,13 +68,19 @@ pub new_begun : (base : List ℕ) (a : Situation) (l : EndLog) → a.ring.log �
 new_begun base a l told silent = record {
   based = refl;
   drops = λ on m there all. refl;
-  streamed = λ unlabelled on m is few h there.
-      let same = same_Some l m (sym told ∙ is) in
-      subst (λ (log : Log). IsStreamed h log (ports_of true ASSIGNED_FIRST (new_proxy FIRST_CID base).device) (new_proxy FIRST_CID base).device.table [])
-      (sym (ap (λ (x : EndLog). x.entries) (sym same) ∙ silent))
-      (begins_streamed h (unlabelled h there) (ports_of true ASSIGNED_FIRST (new_proxy FIRST_CID base).device) (new_proxy FIRST_CID base).device.table refl (refl, refl));
+  streamed = λ unlabelled. begins_since false unlabelled (λ no. absurd cc);
+  shaken = λ unlabelled unaccepted. begins_since true unlabelled (λ known. unaccepted);
   failed = record { grown = omega arith; more = λ some. absurd (omega (arith, some)) };
 }
+  where
+    begins_since : (fresh : Bool) → ForSome a.host IsUnlabelled → (fresh ≡ true → ForSome a.host AreUnaccepted)
+        → IsProxyStreamedSince fresh FIRST_CID (new_proxy FIRST_CID base) a
+    begins_since fresh unlabelled unaccepted on m is few h there =
+        let device = (new_proxy FIRST_CID base).device in
+        let same = same_Some l m (sym told ∙ is) in
+        subst (λ (log : Log). IsStreamed h log (ports_of (lasting fresh) ASSIGNED_FIRST device) device.table [])
+        (sym (ap (λ (x : EndLog). x.entries) (sym same) ∙ silent))
+        (begins_streamed h (unlabelled h there) (ports_of (lasting fresh) ASSIGNED_FIRST device) device.table refl (refl, refl) (λ known. unaccepted known h there))
 
 -- A TURN
 first_cid : (first : ℕ) (log : Log) → has_no_mark log ≡ true → cid_of first log ≡ first
@@ -86,7 +106,8 @@ turn_begun size now s a b x steady runs start begun =
     record {
       based = tallies.based;
       drops = λ on l is. (tallies.drops on l is).1;
-      streamed = λ unlabelled. turn_streamed s a b size now x runs FIRST_CID steady.order.ring (begun.streamed unlabelled);
+      streamed = λ unlabelled. turn_streamed s a b size now x runs false FIRST_CID steady.order.ring (begun.streamed unlabelled);
+      shaken = λ unlabelled unaccepted. turn_streamed s a b size now x runs true FIRST_CID steady.order.ring (begun.shaken unlabelled unaccepted);
       failed = tallies.failed;
     }
 

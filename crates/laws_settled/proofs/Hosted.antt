@@ -5,12 +5,13 @@ use Rattle.vs_device_parts.specs.{Calls.Situation, Playing.Runs}
 use Rattle.laws_device.proofs.{Chains.{Among, alone_so}, Keeping.keeps_end, Seats.Carried}
 use Rattle.vs_proxy_parts.specs.{State.ProxyState, Turns.turn_of, declared.answers.Turn.Turn}
 use Rattle.laws_proxy.{specs.Honest.IsProxyWith, proofs.Turning.{Proxied, turn_keeps}}
+use Rattle.laws_device.specs.Carried.Streamed.{lasting}
 use Rattle.laws_settled.{specs.Hosts.{IsHosts, IsHostsWith}, proofs.Hosting.{WithHost, step_hosts}}
 
 abbrev hosts : Carried
 hosts = record {
   ok = ⊥;
-  stay = true;
+  since = lasting false;
   others = λ held. held ≡ [];
   asks = WithHost;
   of_host = λ f host. host;

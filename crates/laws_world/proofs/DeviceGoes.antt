@@ -2,6 +2,7 @@
 use Rattle.std.proofs.Common.{true, false, ℕ, refl, subst}
 use Rattle.vs_page.specs.{Log.{Device, HasGotAll, flow_got}, declared.log.LogEntry.TheVariants.GotPacket}
 use Rattle.laws_tables.{specs.Both.{Both, IsSound, Seat}, proofs.{Fair.got_formed, Voices.{AreVoiced, voices_run}}}
+use Rattle.laws_device.specs.Carried.Streamed.{changing}
 use Rattle.laws_device.proofs.{Seats.{Carried, PutsFit}, Carried.Cids.dropped_empty}
 use Rattle.laws_world.{proofs.Runs.{and_then, got_before, keeps_sound, log_before, step_runs}, specs.{Sides.Runs, World.first_cid}}
 
@@ -19,7 +20,7 @@ module _ (fresh : Type 0) (b : Both) (sound : IsSound first_cid b) (cids : AreVo
   abbrev pub carried : Carried
   carried = record {
     ok = fresh;
-    stay = false;
+    since = changing;
     others = λ held. Unit {0};
     asks = λ f. Unit {0};
     of_host = λ f host. tt;

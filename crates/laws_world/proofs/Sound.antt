@@ -27,7 +27,7 @@ use Rattle.laws_driver.{specs.{Honest.{IsFitState, ends_of_state, slots_of}, Res
 use Rattle.laws_driver.proofs.{Carried.Sending.puts_as, Carrying.{Carries, Fact, Holds, IsTiedBy, RestsWith}, Stepping.{Works, owed_with, publish_with, reply_with, takes_with}}
 use Rattle.laws_driver.proofs.{Keeping.{Keeps, keeps_end, keeps_weaker}, Staging.{Rests, rests_tied, Ties as DriverTies}}
 use Rattle.vs_flow.specs.{Connection.Connection, Table.Table}
-use Rattle.laws_device.{specs.{Carried.Streamed.{IsStreamed, Ports, ports_of}, Honest.{is_held, IsFitState as IsFitDevice}, Dropped.IsCounted}, proofs.Carried.Changing.StreamedIf}
+use Rattle.laws_device.{specs.{Carried.Streamed.{IsStreamed, Ports, changing, ports_of}, Honest.{is_held, IsFitState as IsFitDevice}, Dropped.IsCounted}, proofs.Carried.Changing.StreamedIf}
 use Rattle.laws_device.proofs.{Carried.{Changing.listened_host, HostCalls.{client_host, same_host}, Hosts.{counts_still, unseen}}, Carrying.{IsToldBy, StreamedOver, With}, Chains.Among, Seats.Carried}
 use Rattle.laws_device.proofs.{Seats.PutsFit, Keeping.{keeps_then, Keeps as DeviceKeeps, keeps_weaker as device_weaker}, Turning.tick_slot_keeps, Dropping.{P, alone, calls}}
 use Rattle.laws_device.proofs.{Dropping.{keeps_both, moving, publishes, tx_calls}, Walk.Fields.fields}
@@ -52,7 +52,7 @@ host_written id bytes written.NoStream c log port t hands x = x
 
 -- What the device has for REQUESTs, while the host's listeners come and go.
 abbrev pub ports_in : World → Ports
-ports_in w = ports_of false w.proxy.next_port w.proxy.device
+ports_in w = ports_of changing w.proxy.next_port w.proxy.device
 
 -- What is true of the device between any two events.
 pub record DeviceHolds (next : ℕ) (s : DeviceState) : Type 0 where

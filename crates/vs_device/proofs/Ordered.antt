@@ -7,7 +7,7 @@ use Rattle.laws_tables.specs.Steps.{IsNextFlow}
 use Rattle.vs_page.specs.Log.{Device}
 use Rattle.vs_device_parts.specs.{Receiving.{fill_rx_of, pay_event_of}, State.DeviceState, Streams.{Writing, pump_of, tick_of}, Transmitting.take_tx_of, Turns.{open_of, reset_of}}
 use Rattle.vs_device_parts.specs.{declared.answers.{Filled.Filled, Taken.Taken}, Calls.{Allows, DeviceTree, Situation}, Playing.{CanMake, Runs, RunsOnHost, RunsOnRing, situation}}
-use Rattle.laws_device.specs.{Named.{Split.CanReach, Streams.{FindsFree, FindsStreams, HasStreams}}, Honest.{IsFitFlow, IsWith, ends_of_state, port_after}, Streams.AreStreamedWith}
+use Rattle.laws_device.specs.{Named.{Split.CanReach, Streams.{FindsFree, FindsStreams, HasStreams}}, Honest.{IsFitFlow, IsWith, ends_of_state, port_after}, Streams.AreStreamedSince}
 use Rattle.laws_device.proofs.Named.{Closing.keeps_tick, Conditions.quiet_can, Keeping.{Keeps, keeps_end as streams_end}, Opening.{both_found, keeps_open, keeps_reset}}
 use Rattle.laws_device.proofs.{Named.{Receiving.keeps_fill_rx, Transmitting.keeps_take_tx, Writing.keeps_pump}, Filling.fill_keeps, Keeping.keeps_end, Transmitting.take_keeps}
 use Rattle.laws_device.proofs.{Turning.{pay_keeps, pump_keeps, reset_keeps, tick_keeps, opens_plain}, Carrying.{ring_end, with_ring, ring_and_host, ring_only, streamed_end}}
@@ -62,10 +62,10 @@ module _ (s : DeviceState) (a b : Situation) where
       ring_end first port (λ x. x.0) s (reset_of cid s) a b x holds (reset_keeps ring_only [] first port cid fits s a) runs
 
   pub reset_streamed : (cid : ℕ) (x : DeviceState × Result (Unit {0}) Failure) → cid < 2 ^ 64 → Runs (reset_of cid s) a x b
-      → (first port : ℕ) (lines : List Handshake) → IsWith first port s a.ring → AreStreamedWith first port lines s a
-      → AreStreamedWith first port lines x.0 b
-  reset_streamed cid x fits runs first port lines holds streams =
-      streamed_end first port lines (λ x. x.0) s (reset_of cid s) a b x holds streams (reset_keeps ring_and_host lines first port cid fits s a) runs
+      → (fresh : Bool) (first port : ℕ) (lines : List Handshake) → IsWith first port s a.ring → AreStreamedSince fresh first port lines s a
+      → AreStreamedSince fresh first port lines x.0 b
+  reset_streamed cid x fits runs fresh first port lines holds streams =
+      streamed_end fresh first port lines (λ x. x.0) s (reset_of cid s) a b x holds streams (reset_keeps (ring_and_host fresh) lines first port cid fits s a) runs
 
   pub open_streams : (flow : Flow) (stream : ℕ) (x : DeviceState × Result ℕ TableFault) → Runs (open_of flow stream s) a x b
       → (others : List ℕ) → FindsStreams others s a → FindsFree stream others s a → FindsStreams others x.0 b
@@ -77,7 +77,7 @@ module _ (s : DeviceState) (a b : Situation) where
       → (first port : ℕ) → IsNextFlow Device flow (ends_of_state port s) → IsWith first port s a.ring
       → IsWith first (port_after flow port x.1) x.0 b.ring
   open_honest flow stream x fits runs first port next holds =
-      with_ring ⊥ [] first (port_after flow port x.1) x.0 b
+      with_ring false ⊥ [] first (port_after flow port x.1) x.0 b
       (keeps_end _ (open_of flow stream s) a b x (opens_plain first port flow stream s next fits a holds) runs)
 
 -- A ring that exposes nothing.

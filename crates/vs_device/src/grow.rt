@@ -1,12 +1,12 @@
 //! Raising the buffer space of a connection (Virtio 1.2, section 5.10.6.3).
 
-ghost use Rattle.std.specs.Prelude.{◌≡◌, ◌≢◌, ℕ, List, Option, true, Some};
+ghost use Rattle.std.specs.Prelude.{◌≡◌, ◌≢◌, ℕ, Bool, List, Option, true, Some};
 ghost use Rattle.vs_conn.specs.declared.end.Owed.TheVariants.{CreditUpdate};
 ghost use Rattle.vs_outside.specs.Host.{HostContents};
 ghost use Rattle.vs_ring_port.specs.Contents.{RingContents};
 ghost use Rattle.vs_device_parts.specs.{Calls.Situation, Growing.{after_grow, grow_of, owed_in, rises}, declared.answers.Grown.TheVariants.Done};
 ghost use Rattle.vs_proxy_parts.specs.State.{Handshake};
-ghost use Rattle.laws_device.specs.{Honest.IsWith, Named.Streams.HasStreams, Streams.AreStreamedWith};
+ghost use Rattle.laws_device.specs.{Honest.IsWith, Named.Streams.HasStreams, Streams.AreStreamedSince};
 ghost use Rattle.laws_proxy.specs.Account.{Made.Made, Told.AreAccounted};
 
 use crate::device::Device;
@@ -31,8 +31,8 @@ impl Device {
         // The connections stay those that the log of an honest ring left.
         ensures honest { (first port : ℕ) (ring : RingContents) → IsWith first port self.old ring → IsWith first port self.new ring }
         // What the host's streams took and gave stays in step with that log.
-        ensures streamed { (first port : ℕ) (lines : List Handshake) (a : Situation) → IsWith first port self.old a.ring
-            → AreStreamedWith first port lines self.old a → AreStreamedWith first port lines self.new a }
+        ensures streamed { (fresh : Bool) (first port : ℕ) (lines : List Handshake) (a : Situation) → IsWith first port self.old a.ring
+            → AreStreamedSince fresh first port lines self.old a → AreStreamedSince fresh first port lines self.new a }
         // The calls made account for the host's streams, as they did before.
         ensures bytes { (calls : List Made) (hands : List Handshake) (host : Option HostContents)
             → AreAccounted calls self.old.table hands host → AreAccounted calls self.new.table hands host }

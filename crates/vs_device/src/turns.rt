@@ -1,13 +1,13 @@
 //! Connections that clients of the host ask for, transport resets, and what the device shows of its connections.
 
-ghost use Rattle.std.specs.{Prelude.{◌≡◌, ◌≤◌, ◌<◌, ◌^◌, ℕ, List, Contains, [], true, Some, IfOk, IfErr, OnErr, OnOk, Err, length}, Iterator.{YieldsFirst, item_count}};
+ghost use Rattle.std.specs.{Prelude.{◌≡◌, ◌≤◌, ◌<◌, ◌^◌, ℕ, Bool, List, Contains, [], true, Some, IfOk, IfErr, OnErr, OnOk, Err, length}, Iterator.{YieldsFirst, item_count}};
 ghost use Rattle.std.specs.Option.{ForSome};
 ghost use Rattle.vs_contents.specs.CallTree.{for_each};
 ghost use Rattle.vs_flow.specs.Table.{refusal, slots};
 ghost use Rattle.vs_ring_port.specs.{declared.failure.Failure.Failure, Contents.RingContents, EndLog.EndLog};
 ghost use Rattle.vs_limits.specs.declared.TheConstants.{BUF_ALLOC_MAX, GUEST_CID_MIN, GUEST_CID_MAX};
 ghost use Rattle.laws_tables.specs.Steps.{IsNextFlow};
-ghost use Rattle.laws_device.specs.{Named.Streams.{HasStreams, IsFree}, Streams.AreStreamedWith, Honest.{AgreesWith, IsLeftOpen, IsWith, ends_of_state, port_after}};
+ghost use Rattle.laws_device.specs.{Named.Streams.{HasStreams, IsFree}, Streams.AreStreamedSince, Honest.{AgreesWith, IsLeftOpen, IsWith, ends_of_state, port_after}};
 ghost use Rattle.laws_proxy.specs.Account.{Made.Made, Told.{AreAccounted, IsAsking, StayAccounted}};
 ghost use Rattle.vs_proxy_parts.specs.State.{Handshake};
 ghost use Rattle.vs_device_parts.specs.{State.DeviceEntry, Playing.{IsItsRing, MayRun, MayRunOnHost, Runs, RunsOnHost, situation}, Turns.{after_reset, close_slot, open_of}};
@@ -92,9 +92,9 @@ impl Device {
             → IsWith first port self.new (R.contents ring.new) }
         // Where no payload of an open connection is dropped for its CIDs, the payload put on each connection is what was taken of its
         // stream, and its stream was given a prefix of its OK line and the payload got there; a guest may use a pair of ports again.
-        ensures streamed { (first port : ℕ) (lines : List Handshake) → IsWith first port self.old (R.contents ring.old)
-            → AreStreamedWith first port lines self.old (situation (R.contents ring.old) (H.contents host.old) (H.faults host.old))
-            → AreStreamedWith first port lines self.new (situation (R.contents ring.new) (H.contents host.new) (H.faults host.new)) }
+        ensures streamed { (fresh : Bool) (first port : ℕ) (lines : List Handshake) → IsWith first port self.old (R.contents ring.old)
+            → AreStreamedSince fresh first port lines self.old (situation (R.contents ring.old) (H.contents host.old) (H.faults host.old))
+            → AreStreamedSince fresh first port lines self.new (situation (R.contents ring.new) (H.contents host.new) (H.faults host.new)) }
         // The calls made account for the host's streams, as they did before; handshakes are forgotten.
         ensures bytes { (calls : List Made) (hands : List Handshake) → AreAccounted calls self.old.table hands (H.contents host.old)
             → StayAccounted (reset_of cid self.old) calls (self.new, result) self.new.table [] (H.contents host.new) }

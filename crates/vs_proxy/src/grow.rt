@@ -1,13 +1,13 @@
 //! Raising the buffer space of a connection (Virtio 1.2, section 5.10.6.3).
 
-ghost use Rattle.std.specs.Prelude.{◌≡◌, ◌≢◌, ℕ, List, Option, true, Some};
+ghost use Rattle.std.specs.Prelude.{◌≡◌, ◌≢◌, ℕ, Bool, List, Option, true, Some};
 ghost use Rattle.vs_conn.specs.declared.end.Owed.TheVariants.{CreditUpdate};
 ghost use Rattle.vs_outside.specs.Host.{HostContents};
 ghost use Rattle.vs_ring_port.specs.{Contents.RingContents, declared.device_ring.Chain.Chain};
 ghost use Rattle.vs_device_parts.specs.{Calls.Situation, Growing.{owed_in, rises}, Playing.IsItsRing, State.counters_of, declared.answers.Grown.TheVariants.Done};
 ghost use Rattle.vs_proxy_parts.specs.{Growing.{after_flow_grow, after_label_grow, flow_grow_of, label_at, label_grow_of, slot_of}, Handshakes.streams_of};
 ghost use Rattle.laws_device.specs.Named.Streams.{HasStreams};
-ghost use Rattle.laws_proxy.specs.{Honest.{IsProxyStreamed, IsProxyWith}, Order.IsInOrder, Account.{Made.Made, Told.AreAccounted}};
+ghost use Rattle.laws_proxy.specs.{Honest.{IsProxyStreamedSince, IsProxyWith}, Order.IsInOrder, Account.{Made.Made, Told.AreAccounted}};
 
 use crate::proxy::Proxy;
 use vs_device::Grown;
@@ -38,8 +38,8 @@ impl Proxy {
         // The connections stay those that the log of an honest ring left.
         ensures honest { (first : ℕ) (ring : RingContents) → IsProxyWith first self.old ring → IsProxyWith first self.new ring }
         // What the host's streams took and gave stays in step with that log.
-        ensures streamed { (first : ℕ) (a : Situation) → IsProxyWith first self.old a.ring → IsProxyStreamed first self.old a
-            → IsProxyStreamed first self.new a }
+        ensures streamed { (fresh : Bool) (first : ℕ) (a : Situation) → IsProxyWith first self.old a.ring → IsProxyStreamedSince fresh first self.old a
+            → IsProxyStreamedSince fresh first self.new a }
         // The calls made account for the host's streams, as they did before.
         ensures bytes { (calls : List Made) (host : Option HostContents) → AreAccounted calls self.old.device.table self.old.handshakes host
             → AreAccounted calls self.new.device.table self.new.handshakes host }

@@ -1,12 +1,12 @@
 //! The turn of a proxy, and a transport reset.
 
-ghost use Rattle.std.specs.{Prelude.{◌≡◌, ◌≤◌, ◌<◌, ◌+◌, ◌^◌, ◌&&◌, not, ℕ, List, Contains, length, [], true, Some, None, IfErr, OnErr, OnOk, Err}, Option.ForSome};
+ghost use Rattle.std.specs.{Prelude.{◌≡◌, ◌≤◌, ◌<◌, ◌+◌, ◌^◌, ◌&&◌, not, ℕ, Bool, List, Contains, length, [], true, Some, None, IfErr, OnErr, OnOk, Err}, Option.ForSome};
 ghost use Rattle.vs_contents.specs.CallTree.{Leads, for_each};
 ghost use Rattle.vs_limits.specs.declared.TheConstants.{BUF_ALLOC_MAX, GUEST_CID_MIN, GUEST_CID_MAX};
 ghost use Rattle.vs_ring_port.specs.{EndLog.EndLog, declared.failure.Failure.Failure};
 ghost use Rattle.vs_device_parts.specs.{Playing.{IsItsRing, MayRun, MayRunOnHost, Runs, RunsOnHost, situation}, State.{counters_of, DeviceEntry}, Turns.table_shown};
 ghost use Rattle.laws_device.specs.{Named.Streams.HasStreams, Honest.{AgreesWith, IsLeftOpen}};
-ghost use Rattle.laws_proxy.specs.{Honest.{IsProxyStreamed, IsProxyWith}, Order.IsInOrder, Account.Counts.{CountsFaults, DeviceCounts, counts_of, counts_shown}};
+ghost use Rattle.laws_proxy.specs.{Honest.{IsProxyStreamedSince, IsProxyWith}, Order.IsInOrder, Account.Counts.{CountsFaults, DeviceCounts, counts_of, counts_shown}};
 ghost use Rattle.laws_proxy.specs.Account.{Events.TellsEvent, Made.{Made, Makes}, Packets.{AreJudged, chains_taken}, Told.{AreAccounted, StayAccounted}};
 ghost use Rattle.vs_proxy_parts.specs.{Handshakes.streams_of, State.ProxyState, Turning.turning_of, Turns.{close_handshake, proxy_reset_of, turn_of, turned}};
 ghost use Rattle.vs_proxy_parts.specs.declared.answers.Turn.TheVariants as turn;
@@ -40,10 +40,11 @@ impl Proxy {
         // Over an honest ring that tells its log the connections are those that the log left, and all that is put keeps the log fair.
         ensures honest { (first : ℕ) → IsProxyWith first self.old (R.contents ring.old) → IsProxyWith first self.new (R.contents ring.new) }
         // Where no payload of an open connection is dropped for its CIDs, the payload put on each connection is what was taken of its
-        // stream, and its stream was given a prefix of its OK line and the payload got there; a guest may use a pair of ports again.
-        ensures streamed { (first : ℕ) → IsProxyWith first self.old (R.contents ring.old)
-            → IsProxyStreamed first self.old (situation (R.contents ring.old) (H.contents host.old) (H.faults host.old))
-            → IsProxyStreamed first self.new (situation (R.contents ring.new) (H.contents host.new) (H.faults host.new)) }
+        // stream, and its stream was given a prefix of its OK line and the payload got there; a guest may use a pair of ports again. Where the proxy accepted
+        // all clients, each of their streams that has no label and isn't closed is one whose line is being read.
+        ensures streamed { (fresh : Bool) (first : ℕ) → IsProxyWith first self.old (R.contents ring.old)
+            → IsProxyStreamedSince fresh first self.old (situation (R.contents ring.old) (H.contents host.old) (H.faults host.old))
+            → IsProxyStreamedSince fresh first self.new (situation (R.contents ring.new) (H.contents host.new) (H.faults host.new)) }
         // The calls made account for the host's streams, as they did before: what a stream is given is the payload delivered on its own
         // connection, and what is taken of it is put on its flow.
         ensures bytes { (calls : List Made)
@@ -126,10 +127,11 @@ impl Proxy {
         // Over an honest ring that tells its log the connections are those that the log left, and all that is put keeps the log fair.
         ensures honest { (first : ℕ) → IsProxyWith first self.old (R.contents ring.old) → IsProxyWith first self.new (R.contents ring.new) }
         // Where no payload of an open connection is dropped for its CIDs, the payload put on each connection is what was taken of its
-        // stream, and its stream was given a prefix of its OK line and the payload got there; a guest may use a pair of ports again.
-        ensures streamed { (first : ℕ) → IsProxyWith first self.old (R.contents ring.old)
-            → IsProxyStreamed first self.old (situation (R.contents ring.old) (H.contents host.old) (H.faults host.old))
-            → IsProxyStreamed first self.new (situation (R.contents ring.new) (H.contents host.new) (H.faults host.new)) }
+        // stream, and its stream was given a prefix of its OK line and the payload got there; a guest may use a pair of ports again. Where the proxy accepted
+        // all clients, each of their streams that has no label and isn't closed is one whose line is being read.
+        ensures streamed { (fresh : Bool) (first : ℕ) → IsProxyWith first self.old (R.contents ring.old)
+            → IsProxyStreamedSince fresh first self.old (situation (R.contents ring.old) (H.contents host.old) (H.faults host.old))
+            → IsProxyStreamedSince fresh first self.new (situation (R.contents ring.new) (H.contents host.new) (H.faults host.new)) }
         // The calls made account for the host's streams, as they did before.
         ensures bytes { (calls : List Made)
             → AreAccounted calls self.old.device.table self.old.handshakes (H.contents host.old)

@@ -13,7 +13,7 @@ use Rattle.laws_device.proofs.Carried.{Streamed.{join_of, kept_streamed, left_st
 use Rattle.laws_device.proofs.Carried.{Hosts.{counts_kept, counts_still, look_kept, unseen}, Counted.{Lacks, comes_on, counted_asks, counted_got, counted_put, fewer_served, kept_less, lost_serves, none_lacks}}
 use Rattle.laws_device.{proofs.Carried.Counted.{number_put_elsewhere, put_still, request_put}, specs.Carried.Streamed.{client_waits, AreCounted, CountMatches}}
 use Rattle.vs_limits.specs.declared.TheConstants.{DEVICE_CONNECTIONS}
-use Rattle.laws_device.specs.Carried.Streamed.{heard_at, serves, IsJoined, IsStreamed, Ports, connection_of, count_in, gives, line_for, look, Seen}
+use Rattle.laws_device.specs.Carried.Streamed.{heard_at, serves, IsJoined, IsShaking, IsStreamed, Ports, connection_of, count_in, gives, line_for, look, Seen}
 use Rattle.laws_history.specs.{Packets.{has, is_clean_rst, is_request, is_response, is_rw}, History.{Answerer, Asker, Got, History, IsFair, Side, gots, puts, MayPut, peer}}
 use Rattle.laws_history.specs.{declared.packet.Packet.Packet, Again.AllowsNow}
 use Rattle.laws_tables.{specs.{Steps.payload_on, Drains.{Drains, only_on}, Ends.{is_among, is_new}}, proofs.{Entries.kept_among, Fair.{fair_now, own_got_fair}}}
@@ -277,7 +277,7 @@ module _ (c : HostContents) (log : Log) (port : Ports) (t : Table DeviceConnecti
   pub keeps_streams : (e : DeviceEntry) → Contains t.entries e → is_new e.value.end ≡ false → (keep : Bool)
       → IsStreamed c log (record port { clean = kept_if keep e.flow port.clean }) t hands
   keeps_streams e is old keep = kept_streamed (look c) c.labelled (count_in c) log (heard_at c port) (heard_at c (record port { clean = kept_if keep e.flow port.clean })) t hands x refl x.streams.slots
-      (λ f y. by keep f y)
+      (λ f y. by keep f y) x.shaken
     where
       all : count_in c e.flow ≡ number_of Device e.flow log
       all = sym (join_of (look c) c.labelled (count_in c) log (heard_at c port) t hands x e is).newest
@@ -307,13 +307,13 @@ module _ (c : HostContents) (log : Log) (port : Ports) (t : Table DeviceConnecti
               (is_among f (kept CLEAN_PAIRS e.flow port.clean)) marked served served (λ is. kept_among e.flow f port.clean is other) (λ is. is) y
 
   -- No REQUEST is served any more.
-  pub lost_streams : (next : Ports) → port.next ≡ next.next → next.clean ≡ port.clean → next.serving.room ≡ port.serving.room
+  pub lost_streams : (next : Ports) → port.next ≡ next.next → next.clean ≡ port.clean → next.fresh ≡ port.fresh → next.serving.room ≡ port.serving.room
       → next.serving.given ≡ port.serving.given → next.serving.lost ≡ true → IsStreamed c log next t hands
-  lost_streams next same clean room given lost =
+  lost_streams next same clean known room given lost =
       kept_streamed (look c) c.labelled (count_in c) log (heard_at c port) (heard_at c next) t hands x same
       (room ∙ x.streams.slots.0, subst (λ (n : ℕ). n ≤ length c.labelled) (sym given) x.streams.slots.1)
       (λ f. fewer_served (count_in c) (heard_at c port) (heard_at c next) log f clean
-      (λ is. let both : true ≡ false = sym is ∙ lost_serves (heard_at c next).serving log f lost in absurd cc))
+      (λ is. let both : true ≡ false = sym is ∙ lost_serves (heard_at c next).serving log f lost in absurd cc)) (λ fresh. x.shaken (sym known ∙ fresh))
 
   -- A connection leaves, whose stream is closed or closes.
   pub leaves_streams : (e : DeviceEntry) → Contains t.entries e → e.value.closed ≡ true → (k : DeviceConnection)
@@ -382,6 +382,7 @@ listened_host c paths log port t hands lost x =
     let next : Ports = heard_at (record c { listening = paths }) port in
     kept_streamed (look c) c.labelled (count_in c) log (heard_at c port) next t hands x refl x.streams.slots
     (λ f. fewer_served (count_in c) (heard_at c port) next log f refl (λ is. let both : true ≡ false = sym is ∙ lost_serves next.serving log f lost in absurd cc))
+    x.shaken
 
 -- Calls on the host that change no bytes.
 pub called_host : (c : HostContents) (log : Log) (port : Ports) (t : Table DeviceConnection) (hands : List Handshake) → IsStreamed c log port t hands
@@ -418,8 +419,9 @@ goes_on line is = by (is_decided 32 line) (connect_port line) is
 pub no_labels : (c : HostContents) (port : Ports) (t : Table DeviceConnection) → t.entries ≡ [] → (port.serving.given ≡ 0) × (port.serving.room ≡ DEVICE_CONNECTIONS)
     → c.labelled ≡ []
     → ((id : ℕ) (s : Seen) (k : Connection) → look c id ≡ Some s → s.label ≢ Some k)
-    → ((id : ℕ) (s : Seen) → look c id ≡ Some s → s.waiting ≡ true → s ≡ client_waits) → IsStreamed c [] port t []
-no_labels c port t empty slots unlabelled none waits = record {
+    → ((id : ℕ) (s : Seen) → look c id ≡ Some s → s.waiting ≡ true → s ≡ client_waits)
+    → (port.fresh ≡ true → (id : ℕ) (s : Seen) → look c id ≡ Some s → IsShaking s → ⊥) → IsStreamed c [] port t []
+no_labels c port t empty slots unlabelled none waits fresh = record {
   joined = subst (λ (es : List DeviceEntry). All (IsJoined (look c) (count_in c) []) es) (sym empty) (λ i e within. absurd (omega (arith, within)));
   tabled = λ id s k there label. absurd (none id s k there label);
   streams = record {
@@ -439,6 +441,7 @@ no_labels c port t empty slots unlabelled none waits = record {
       apart = λ i j h less within. absurd (omega (arith, within));
     };
   };
+  shaken = λ is id s there busy. absurd (fresh is id s there busy);
 }
   where
     nowhere : {id : ℕ} → Contains [] id → ⊥

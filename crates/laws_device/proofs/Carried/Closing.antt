@@ -8,8 +8,8 @@ use Rattle.vs_outside.specs.Host.{HostContents, after_close}
 use Rattle.vs_page.specs.Log.{Log}
 use Rattle.vs_proxy_parts.specs.State.{Handshake}
 use Rattle.laws_tables.proofs.Slots.{found_by}
-use Rattle.laws_device.specs.{Named.Streams.{joined_stream, stream_under}, Carried.Streamed.{AreLabelled, IsJoined, IsStreamed, Ports, Seen, connection_of, count_in, heard_at, look}}
-use Rattle.laws_device.{specs.Carried.Streamed.reading, proofs.{Named.Tables.{joined_in, stream_closed_under, value_in}, Carried.HostCalls.{open_before, shut_labels, some_seen}}}
+use Rattle.laws_device.specs.{Named.Streams.{joined_stream, stream_under}, Carried.Streamed.{AreLabelled, AreShaken, IsJoined, IsStreamed, Ports, Seen, connection_of, count_in, heard_at, look}}
+use Rattle.laws_device.{specs.Carried.Streamed.reading, proofs.{Named.Tables.{joined_in, stream_closed_under, value_in}, Carried.HostCalls.{open_before, shut_labels, shut_shaken, some_seen}}}
 
 -- A stream with a label that isn't closed is that of a connection under one of these slots. No line is of such a stream.
 pub record IsClosing (rest : List ℕ) (t : Table DeviceConnection) (c : HostContents) (log : Log) (port : Ports)
@@ -18,6 +18,7 @@ pub record IsClosing (rest : List ℕ) (t : Table DeviceConnection) (c : HostCon
   pub left : (id : ℕ) (s : Seen) (k : Connection) → look c id ≡ Some s → s.label ≡ Some k → s.closed ≡ false
       → (slot : ℕ) × (stream_under t slot ≡ Some id) × Contains rest slot
   pub away : (slot id : ℕ) → stream_under t slot ≡ Some id → All (λ h. h.stream ≢ id) hands
+  pub shaken : port.fresh ≡ true → AreShaken (look c) hands
 
 -- The connection under a slot.
 pub record IsUnder (t : Table DeviceConnection) (slot id : ℕ) : Type 0 where
@@ -63,6 +64,7 @@ module _ (c : HostContents) (log : Log) (port : Ports) (t : Table DeviceConnecti
         some_seen (reading (get_or hands i h).line) j.stream (sym (x.streams.lines.read i h within) ∙ ap (look c) place ∙ j.there) in
         let both : None ≡ Some (connection_of e log) = ap (λ (s : Seen). s.label) one ∙ j.label in
         absurd cc;
+    shaken = x.shaken;
   }
 
   pub closing_done : IsClosing [] t c log port hands → IsStreamed c log port (emptied t) hands
@@ -70,6 +72,7 @@ module _ (c : HostContents) (log : Log) (port : Ports) (t : Table DeviceConnecti
     joined = λ i e within. absurd (omega (arith, within));
     tabled = λ id s f there label still. let less = (x.left id s f there label still).2.1 in absurd (omega (arith, less));
     streams = x.streams;
+    shaken = x.shaken;
   }
 
   module _ (slot : ℕ) (rest : List ℕ) (x : IsClosing (slot ∷ rest) t c log port hands) where
@@ -81,6 +84,7 @@ module _ (c : HostContents) (log : Log) (port : Ports) (t : Table DeviceConnecti
           let old = x.left id s f there label still in
           (old.0, old.1, listed_by slot old.0 rest old.2 (λ same. apart id (ap (stream_under t) (sym same) ∙ old.1)));
       away = x.away;
+      shaken = x.shaken;
     }
       where
         apart : (id : ℕ) → stream_under t slot ≡ Some id → ⊥
@@ -116,6 +120,7 @@ module _ (c : HostContents) (log : Log) (port : Ports) (t : Table DeviceConnecti
             ∙ ap (stream_under t) (sym same) ∙ old.1) in
             (old.0, stays old.0 id old.1 apart, listed_by slot old.0 rest old.2 apart);
         away = was_away;
+        shaken = x.shaken;
       }
         where
           none : (id : ℕ) → None ≡ Some id → ⊥
@@ -132,6 +137,7 @@ module _ (c : HostContents) (log : Log) (port : Ports) (t : Table DeviceConnecti
                 let apart : old.0 ≢ slot = λ same. before.1 (one id (sym at ∙ ap (stream_under t) (sym same) ∙ old.1)) in
                 (old.0, stays old.0 id old.1 apart, listed_by slot old.0 rest old.2 apart);
             away = was_away;
+            shaken = λ fresh. shut_shaken e.value.stream c hands (x.shaken fresh);
           }
         where
           one : (id : ℕ) → Some e.value.stream ≡ Some id → id ≡ e.value.stream

@@ -1,11 +1,11 @@
 -- Lines that are read: a byte more, and a line that ends.
 use Rattle.std.proofs.lemmas.Grind.{common_steps}
 use Rattle.std.proofs.Common.{◌≡◌, ◌≢◌, ℕ, zero, suc, ◌<◌, ◌==◌, nat_le, ◌||◌, Bool, true, false, cond, List, [], ◌∷◌, ◌++◌, length, get_or, Some, refl, sym, ap, ◌∙◌, arith}
-use Rattle.std.{proofs.{Common.{length-append, append_assoc, replicate}, lemmas.{Bool.Decides.nat_tests, List.same_from_push}}, specs.List.{All, AllPairs, list_any}}
+use Rattle.std.{proofs.{Common.{length-append, append_assoc, replicate}, lemmas.{Bool.Decides.nat_tests, List.{same_from_push, Elements.{Contains-append_left, Contains-push}}}}, specs.List.{All, AllPairs, list_any}}
 use Rattle.vs_proxy_parts.specs.{Handshakes.{with_line, without_stream}, State.Handshake}
 use Rattle.vs_uds.specs.{ConnectLine.{connect_port, connect_step, connect_word}, Reading.is_decided, declared.connect.TheConstants.CONNECT_MAX}
 use Rattle.vs_uds.proofs.{ConnectLines.IsWordLine-word_port, Decided.decided}
-use Rattle.laws_device.specs.Carried.Streamed.{has_line}
+use Rattle.laws_device.specs.Carried.Streamed.{HasHand, has_line}
 use Rattle.vs_uds.specs.declared.scan.Step.TheVariants as step
 
 -- The lines without that of a stream.
@@ -96,6 +96,43 @@ with_apart id line (h ∷ hs) apart = by (h.stream == id) (with_apart id line hs
     by false rest = pairs_cons (λ (g : Handshake) (k : Handshake). g.stream ≢ k.stream) h (with_line id line hs)
         (with_all (λ (k : Handshake). h.stream ≢ k.stream) (λ (k : Handshake). h.stream ≢ k.stream) id line hs (pairs_tail R h hs apart)
         (pairs_head (λ (g : Handshake) (k : Handshake). g.stream ≢ k.stream) h hs apart) (λ k here old. old) (λ k other old. old)) rest
+
+-- Which streams have one: a handshake that begins, one whose line goes on, and one that ends.
+pub has_pushed : (id : ℕ) (h : Handshake) (hs : List Handshake) → HasHand hs id → HasHand (hs ++ h ∷ []) id
+has_pushed id h hs (g, within, same) = (g, Contains-append_left hs (h ∷ []) g within, same)
+
+pub pushes : (h : Handshake) (hs : List Handshake) → HasHand (hs ++ h ∷ []) h.stream
+pushes h hs = (h, Contains-push hs h, refl)
+
+has_behind : (id : ℕ) (h : Handshake) (hs : List Handshake) → HasHand hs id → HasHand (h ∷ hs) id
+has_behind id h hs (g, (i, less, is), same) = (g, (suc i, omega (arith, less), is), same)
+
+has_first : (id : ℕ) (h : Handshake) (hs : List Handshake) → h.stream ≡ id → HasHand (h ∷ hs) id
+has_first id h hs same = (h, (0, omega arith, refl), same)
+
+-- The first one's, or one of the others.
+has_by : (P : Type 0) (id : ℕ) (h : Handshake) (hs : List Handshake) → HasHand (h ∷ hs) id → (h.stream ≡ id → P) → (HasHand hs id → P) → P
+has_by P id h hs (g, (zero, less, is), same) first rest = first (ap (λ (k : Handshake). k.stream) is ∙ same)
+has_by P id h hs (g, (suc i, less, is), same) first rest = rest (g, (i, omega (arith, less), is), same)
+
+pub has_with : (id other : ℕ) (line : List ℕ) (hs : List Handshake) → HasHand hs id → HasHand (with_line other line hs) id
+has_with id other line [] (g, (i, less, is), same) = absurd (omega (arith, less))
+has_with id other line (h ∷ hs) has = by (h.stream == other) (has_with id other line hs)
+  where
+    by : (b : Bool) → (HasHand hs id → HasHand (with_line other line hs) id) → HasHand (cond b (record h { line = line } ∷ hs) (h ∷ with_line other line hs)) id
+    by true rest = has_by (HasHand (record h { line = line } ∷ hs) id) id h hs has (has_first id (record h { line = line }) hs) (has_behind id (record h { line = line }) hs)
+    by false rest = has_by (HasHand (h ∷ with_line other line hs) id) id h hs has (has_first id h (with_line other line hs))
+        (λ has. has_behind id h (with_line other line hs) (rest has))
+
+pub has_without : (id other : ℕ) (hs : List Handshake) → HasHand hs id → id ≢ other → HasHand (without_stream other hs) id
+has_without id other [] (g, (i, less, is), same) apart = absurd (omega (arith, less))
+has_without id other (h ∷ hs) has apart = by (h.stream == other) refl (λ has. has_without id other hs has apart)
+  where
+    by : (b : Bool) → (h.stream == other) ≡ b → (HasHand hs id → HasHand (without_stream other hs) id) → HasHand (cond b hs (h ∷ without_stream other hs)) id
+    by true is rest = has_by (HasHand hs id) id h hs has
+        (λ first. let place : h.stream ≡ other = grind (arith, nat_tests, is) in absurd (apart (sym first ∙ place))) (λ has. has)
+    by false is rest = has_by (HasHand (h ∷ without_stream other hs) id) id h hs has (has_first id h (without_stream other hs))
+        (λ has. has_behind id h (without_stream other hs) (rest has))
 
 -- A byte that ends a line is LF, and its first.
 either_false : (a b : Bool) → (a || b) ≡ false → a ≡ false

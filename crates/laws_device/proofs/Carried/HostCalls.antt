@@ -13,7 +13,9 @@ use Rattle.vs_page.specs.{Fair.{number_of, payload_got, payload_put}, Log.{Devic
 use Rattle.vs_proxy_parts.specs.State.{Handshake}
 use Rattle.vs_uds.specs.{Reading.is_decided, declared.connect.TheConstants.CONNECT_MAX}
 use Rattle.laws_tables.{specs.{Drains.{Drains, only_on}, Ends.is_new}, proofs.{Changes.others_left, Logs.none_on_any, Goes.drops}}
-use Rattle.laws_device.specs.Carried.Streamed.{AreCounted, AreLabelled, AreStreamed, IsJoined, IsLabelled, IsStreamed, Ports, Seen, client_waits, connection_of, count_in, gives, heard_at}
+use Rattle.laws_device.specs.Carried.Streamed.{AreCounted, AreLabelled, AreShaken, AreShakenBut, AreStreamed, HasHand, IsJoined, IsLabelled, IsShaking, IsStreamed, Ports, Seen}
+use Rattle.laws_device.specs.Carried.Streamed.{client_waits, connection_of, count_in, gives, heard_at}
+use Rattle.laws_device.proofs.Carried.Hands.{has_pushed, pushes}
 use Rattle.laws_device.{specs.Carried.Streamed.{has_line, line_for, look, reading, seen, seen_as, taken_of}, proofs.Carried.Streamed.{one_seen, is_or_not, join_moves, join_of}}
 use Rattle.laws_device.proofs.Carried.{Streamed.{moved_streamed, no_entry, one_streamed, recounted, recounted_labels, same_streamed, unlabelled_streamed}, Tabled.stream_stays}
 use Rattle.laws_device.proofs.Carried.{Lines.after_longer, Hosts.{changed_seen, counts_more, counts_still, new_look, none_there, others_look, others_seen, there, unseen_none}}
@@ -82,6 +84,13 @@ module _ (id : ℕ) (c : HostContents) where
       by : (b : Seen) → look c j ≡ Some b → ((u ≡ b) × (j ≢ id)) ⊎ (u ≡ shut b) → (look c j ≡ Some u) × (j ≢ id)
       by b was (inl (same, apart)) = (was ∙ ap (λ (s : Seen). Some s) (sym same), apart)
       by b was (inr closed) = let both : true ≡ false = sym (ap (λ (s : Seen). s.closed) closed) ∙ still in absurd cc
+
+  -- It needs no handshake any more.
+  pub shut_last : (hands : List Handshake) → AreShakenBut id (look c) hands → AreShaken (look shut_host) hands
+  shut_last hands shaken j u now busy = let before = open_before j u now busy.still in shaken j u before.0 busy before.1
+
+  pub shut_shaken : (hands : List Handshake) → AreShaken (look c) hands → AreShaken (look shut_host) hands
+  shut_shaken hands shaken j u now busy = shaken j u (open_before j u now busy.still).0 busy
 
   module _ (log : Log) (port : Ports) (hands : List Handshake) (x : AreLabelled (look c) c.labelled (count_in c) log port hands)
       (away : All (λ h. h.stream ≢ id) hands) where
@@ -156,6 +165,7 @@ closed_host id c log port t hands x free away = record {
       }) t.entries x.joined;
   tabled = λ j u f now label still. x.tabled j u f (open_before id c j u now still).0 label still;
   streams = shut_labels id c log (heard_at c port) hands x.streams away;
+  shaken = λ fresh. shut_shaken id c hands (x.shaken fresh);
 }
   where
     apart : (e : DeviceEntry) → IsJoined (look c) (count_in c) log e → e.value.stream ≢ id
@@ -233,6 +243,7 @@ module _ (c : HostContents) (log : Log) (port : Ports) (t : Table DeviceConnecti
         let old = x.tabled j u k before.0 label still in
         (old.0, stream_stays t sound e is old.0 j old.1 before.1);
     streams = shut_labels id c log (heard_at c port) hands x.streams away;
+    shaken = λ fresh. shut_shaken id c hands (x.shaken fresh);
   }
     where
       id : ℕ
@@ -288,7 +299,13 @@ client_host c log port t hands x =
           (x.streams.lines.read i h within);
       undecided = x.streams.lines.undecided;
       apart = x.streams.lines.apart;
-    }))
+    }) (λ fresh j u is busy. let b = more_back client_stream c refl j u is in by j u (x.shaken fresh) busy b.0 b.1 b.2))
+  where
+    by : (j : ℕ) (u : Seen) → AreShaken (look c) hands → IsShaking u → (b : Bool) → (b ≡ true → look c j ≡ Some u)
+        → (b ≡ false → (u ≡ seen_as None client_stream) × (look c j ≡ None)) → HasHand hands j
+    by j u shaken busy true old new = shaken j u (old refl) busy
+    by j u shaken busy false old new =
+        let both : true ≡ false = sym (ap (λ (s : Seen). s.waiting) (new refl).0) ∙ busy.accepted in absurd cc
 
 -- ACCEPT: the client's line begins.
 pub accepted_host : (id now : ℕ) (c : HostContents) (log : Log) (port : Ports) (t : Table DeviceConnection) (hands : List Handshake)
@@ -317,7 +334,10 @@ accepted_host id now c log port t hands answer x =
       apart = all_pairs_push (λ (g : Handshake) (h : Handshake). g.stream ≢ h.stream) hands
           (record { stream = id; accepted_at = now; line = [] }) x.streams.lines.apart
           (λ k h within same. read_apart st was a.1 (get_or hands k h) (ap (look c) (sym same) ∙ x.streams.lines.read k h within));
-    }))
+    }) (λ fresh j u seen_now busy. is_or_not j id (HasHand (hands ++ record { stream = id; accepted_at = now; line = [] } ∷ []) j)
+    (λ place. subst (HasHand (hands ++ record { stream = id; accepted_at = now; line = [] } ∷ [])) (sym place)
+    (pushes (record { stream = id; accepted_at = now; line = [] }) hands))
+    (λ other. has_pushed j (record { stream = id; accepted_at = now; line = [] }) hands (x.shaken fresh j u (others j other ∙ seen_now) busy))))
   where
     read_apart : (st : Stream) → seen c id st ≡ client_waits → stream_at id c ≡ Some st → (h : Handshake) → look c id ≡ Some (reading h.line) → ⊥
     read_apart st was at h is =

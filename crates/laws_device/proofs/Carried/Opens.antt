@@ -17,10 +17,12 @@ use Rattle.vs_page.{specs.declared.log.LogEntry.TheVariants.GotPacket, proofs.{F
 use Rattle.vs_proxy_parts.specs.{Handshakes.{with_line, without_stream}, State.Handshake}
 use Rattle.vs_uds.specs.{OkLine.ok_text, Reading.is_decided, declared.connect.TheConstants.CONNECT_MAX}
 use Rattle.laws_tables.{specs.{Drains.Drains, Ends.{AreDistinct, is_among}, Steps.port_after}, proofs.Adding.{got_nothing, put_over_got}}
-use Rattle.laws_device.specs.Carried.Streamed.{Serving, heard_at, serves, AreCounted, AreLines, AreStreamed, CountMatches, IsStreamed, Ports, Seen, connection_of, count_in, has_line, line_for, look, reading}
+use Rattle.laws_device.specs.Carried.Streamed.{Serving, heard_at, serves, AreCounted, AreLines, AreShaken, AreShakenBut, AreStreamed, CountMatches, HasHand, IsShaking, IsStreamed}
+use Rattle.laws_device.specs.Carried.Streamed.{Ports, Seen, connection_of, count_in, has_line, line_for, look, reading}
 use Rattle.laws_device.{specs.Carried.Streamed.{seen, seen_as}, proofs.Carried.Hosts.{changed_seen, counts_still, counts_then, here_then, new_there, none_there, others_seen}}
-use Rattle.laws_device.proofs.Carried.{Hosts.{others_then, others_there, there}, HostCalls.{closed_host, some_seen}, Counted.{IsAsked, counted_on, fewer_served, kept_less, slot_served}}
-use Rattle.laws_device.proofs.Carried.{Counted.{number_elsewhere, request_asks}, Streamed.{one_streamed, opened_streamed, recounted}, Hands.{with_all, with_apart, without_all}}
+use Rattle.laws_device.proofs.Carried.{Hosts.{others_then, others_there, there}, HostCalls.{closed_host, shut_last, some_seen}, Counted.{IsAsked, counted_on, fewer_served, kept_less, slot_served}}
+use Rattle.laws_device.proofs.Carried.{Counted.{number_elsewhere, request_asks}, Streamed.{forgets, is_or_not, not_none, one_streamed, opened_streamed}}
+use Rattle.laws_device.proofs.Carried.{Streamed.{recounted, remembers, unfresh}, Hands.{has_with, has_without, with_all, with_apart, without_all}}
 use Rattle.laws_device.proofs.{Carried.Hands.{without_none, without_pairs}, Clean.{port_below, port_rises, removed_among, removed_own}}
 use Rattle.vs_header.specs.declared.Kind.TheVariants as kind
 use Rattle.vs_outside.specs.declared.host_net.Dialed.TheVariants as dialed
@@ -84,19 +86,47 @@ without_lines at id hands x = record {
 -- Other lines are read.
 other_lines : (c : HostContents) (log : Log) (port : Ports) (t : Table DeviceConnection) (hands lines : List Handshake)
     → IsStreamed c log port t hands
-    → AreLines (look c) lines → IsStreamed c log port t lines
-other_lines c log port t hands lines x reads = grind (arith, common_steps)
+    → AreLines (look c) lines → IsStreamed c log (unfresh port) t lines
+other_lines c log port t hands lines x reads = record {
+  joined = x.joined;
+  tabled = x.tabled;
+  streams = record {
+    labels = (forgets (look c) c.labelled (count_in c) log (heard_at c port) t hands x).streams.labels;
+    unique = x.streams.unique;
+    every = x.streams.every;
+    listed = x.streams.listed;
+    slots = x.streams.slots;
+    counted = x.streams.counted;
+    none = x.streams.none;
+    waiting = x.streams.waiting;
+    lines = reads;
+  };
+  shaken = λ no. absurd cc;
+}
 
 pub without_host : (c : HostContents) (log : Log) (port : Ports) (t : Table DeviceConnection) (hands : List Handshake) (id : ℕ)
-    → IsStreamed c log port t hands → IsStreamed c log port t (without_stream id hands)
+    → IsStreamed c log port t hands → IsStreamed c log (unfresh port) t (without_stream id hands)
 without_host c log port t hands id x = other_lines c log port t hands (without_stream id hands) x
     (without_lines (look c) id hands x.streams.lines)
+
+-- All other streams have their handshakes.
+without_shaken : (at : ℕ → Option Seen) (id : ℕ) (hands : List Handshake) → AreShaken at hands → AreShakenBut id at (without_stream id hands)
+without_shaken at id hands shaken j u there busy other = has_without j id hands (shaken j u there busy) other
+
+-- Its stream is closed.
+pub closed_over : (id : ℕ) (c : HostContents) (log : Log) (port : Ports) (t : Table DeviceConnection) (lines : List Handshake)
+    → IsStreamed c log (unfresh port) t lines → (port.fresh ≡ true → AreShakenBut id (look c) lines)
+    → ((s : Seen) → look c id ≡ Some s → s.label ≡ None) → All (λ h. h.stream ≢ id) lines → IsStreamed (after_close id c) log port t lines
+closed_over id c log port t lines x shaken free away =
+    remembers (look (after_close id c)) c.labelled (count_in (after_close id c)) log (heard_at (after_close id c) port) t lines
+    (closed_host id c log (unfresh port) t lines x free away) (λ fresh. shut_last id c lines (shaken fresh))
 
 -- It ends, and its stream is closed.
 pub dropped_host : (c : HostContents) (log : Log) (port : Ports) (t : Table DeviceConnection) (hands : List Handshake) (id : ℕ) (h : Handshake)
     → IsStreamed c log port t hands → IsHand (look c) id h → IsStreamed (after_close id c) log port t (without_stream id hands)
 dropped_host c log port t hands id h x hand =
-    closed_host id c log port t (without_stream id hands) (without_host c log port t hands id x)
+    closed_over id c log port t (without_stream id hands) (without_host c log port t hands id x)
+    (λ fresh. without_shaken (look c) id hands (x.shaken fresh))
     (λ s seen_now. ap (λ (y : Seen). y.label) (sym (some_seen (reading h.line) s (sym hand.there ∙ seen_now))))
     (without_none id hands x.streams.lines.apart)
 
@@ -128,11 +158,17 @@ module _ (c : HostContents) (log : Log) (port : Ports) (t : Table DeviceConnecti
   others_now : (j : ℕ) → j ≢ id → look c j ≡ look read_on j
   others_now j other = others_seen id (take_bytes n) (called c) (λ y. refl) j other
 
-  goes_with : (lines : List Handshake) → AreLines (look read_on) lines → IsStreamed read_on log port t lines
-  goes_with lines reads =
+  goes_with : (lines : List Handshake) → AreLines (look read_on) lines → (port.fresh ≡ true → AreShaken (look read_on) lines) → IsStreamed read_on log port t lines
+  goes_with lines reads shaken =
       recounted (look read_on) c.labelled (count_in c) (count_in read_on) log (heard_at c port) t lines (counts_still id (take_bytes n) (called c) (λ y. refl))
       (one_streamed (look c) (look read_on) c.labelled (count_in c) log (heard_at c port) t hands lines x id (reading (h.line ++ bytes)) line_now refl refl
-      (λ b is. ap (λ (s : Seen). s.label) (sym (some_seen (reading h.line) b (sym hand.there ∙ is)))) others_now reads)
+      (λ b is. ap (λ (s : Seen). s.label) (sym (some_seen (reading h.line) b (sym hand.there ∙ is)))) others_now reads shaken)
+
+  -- Each of the streams was one of those before.
+  was_shaken : AreShaken (look c) hands → (j : ℕ) (u : Seen) → look read_on j ≡ Some u → IsShaking u → HasHand hands j
+  was_shaken shaken j u seen_now busy = is_or_not j id (HasHand hands j)
+      (λ place. shaken j (reading h.line) (ap (look c) place ∙ hand.there) (record { client = refl; accepted = refl; free = refl; still = refl }))
+      (λ other. shaken j u (others_now j other ∙ seen_now) busy)
 
   pub line_more : is_decided CONNECT_MAX (h.line ++ bytes) ≡ false → IsStreamed read_on log port t (with_line id (h.line ++ bytes) hands)
   line_more open_line = goes_with (with_line id (h.line ++ bytes) hands) (record {
@@ -142,17 +178,29 @@ module _ (c : HostContents) (log : Log) (port : Ports) (t : Table DeviceConnecti
     undecided = with_all (λ (g : Handshake). is_decided CONNECT_MAX g.line ≡ false) (λ (g : Handshake). is_decided CONNECT_MAX g.line ≡ false)
         id (h.line ++ bytes) hands x.streams.lines.apart x.streams.lines.undecided (λ g same old. open_line) (λ g other old. old);
     apart = with_apart id (h.line ++ bytes) hands x.streams.lines.apart;
-  })
+  }) (λ fresh j u seen_now busy. has_with j id (h.line ++ bytes) hands (was_shaken (x.shaken fresh) j u seen_now busy))
 
-  pub line_over : IsStreamed read_on log port t (without_stream id hands)
-  line_over = goes_with (without_stream id hands) (record {
+  reads_over : AreLines (look read_on) (without_stream id hands)
+  reads_over = record {
     read = λ i g within.
         let away = without_none id hands x.streams.lines.apart i g within in
         let old = without_all (λ (k : Handshake). look c k.stream ≡ Some (reading k.line)) id hands x.streams.lines.read i g within in
         sym (others_now (get_or (without_stream id hands) i g).stream away) ∙ old;
     undecided = without_all (λ (k : Handshake). is_decided CONNECT_MAX k.line ≡ false) id hands x.streams.lines.undecided;
     apart = without_pairs (λ (g : Handshake) (k : Handshake). g.stream ≢ k.stream) id hands x.streams.lines.apart;
-  })
+  }
+
+  -- All streams but its own have their handshakes.
+  pub line_left : port.fresh ≡ true → AreShakenBut id (look read_on) (without_stream id hands)
+  line_left fresh j u seen_now busy other = has_without j id hands (was_shaken (x.shaken fresh) j u seen_now busy) other
+
+-- A line that is whole.
+pub line_over : (c : HostContents) (log : Log) (port : Ports) (t : Table DeviceConnection) (hands : List Handshake) (x : IsStreamed c log port t hands)
+    (id n : ℕ) (h : Handshake) (hand : IsHand (look c) id h) (bytes : List ℕ) (next : bytes ≡ next_bytes id n c)
+    → IsStreamed (after_read id (read.Got n) c) log (unfresh port) t (without_stream id hands)
+line_over c log port t hands x id n h hand bytes next =
+    goes_with c log (unfresh port) t hands (forgets (look c) c.labelled (count_in c) log (heard_at c port) t hands x) id n h hand bytes next
+    (without_stream id hands) (reads_over c log port t hands x id n h hand bytes next) (λ no. absurd cc)
 
 -- The flow of a connection that is to open has none in the table, and the host lists no stream that has no label.
 module _ (c : HostContents) (log : Log) (port : Ports) (t : Table DeviceConnection) (hands : List Handshake) (x : IsStreamed c log port t hands) where
@@ -317,7 +365,29 @@ module _ (c : HostContents) (log : Log) (port : Ports) (t : Table DeviceConnecti
         read = λ i h within. sym (others_labelled (get_or lines i h).stream (away i h within)) ∙ x.streams.lines.read i h within;
         undecided = x.streams.lines.undecided;
         apart = x.streams.lines.apart;
-      }))
+      }) (λ fresh j u there busy other. x.shaken fresh j u there busy))
+
+  -- It needs no handshake any more.
+  pub label_shaken : AreShakenBut id (look c) lines → AreShaken (look labelled_now) lines
+  label_shaken shaken j u seen_now busy = is_or_not j id (HasHand lines j)
+      (λ place. absurd (not_none u first (ap (λ (s : Seen). s.label)
+      (some_seen u (record (reading line) { label = Some first }) (sym seen_now ∙ ap (look labelled_now) place ∙ label_seen))) busy.free))
+      (λ other. shaken j u (others_labelled j other ∙ seen_now) busy other)
+
+-- The line's stream had no handshake before.
+pub label_over : (c : HostContents) (log : Log) (port : Ports) (t : Table DeviceConnection) (lines : List Handshake) (x : IsStreamed c log (unfresh port) t lines)
+    (id : ℕ) (f : Flow) (line : List ℕ) (here : look c id ≡ Some (reading line)) (away : All (λ h. h.stream ≢ id) lines)
+    (whole : has_line line ≡ true) (none_behind : after_line line ≡ []) (inside : host_asks f ≡ true) (sound : IsTable t)
+    (alone : entry_of t f ≡ None) (given : (port.next ≤ f.host) ⊎ (is_among f port.clean ≡ true)) (once : AreDistinct port.clean)
+    → (port.fresh ≡ true → AreShakenBut id (look c) lines)
+    → IsStreamed (after_label id f c) log (record (next_slot port) { next = port_after port.next f.host; clean = without_oldest (same_flow f) port.clean })
+    (with_entry t f (new_connection (asked kind.Stream BUF_ALLOC) id true)) lines
+label_over c log port t lines x id f line here away whole none_behind inside sound alone given once shaken =
+    let now : Ports = record (next_slot port) { next = port_after port.next f.host; clean = without_oldest (same_flow f) port.clean } in
+    remembers (look (after_label id f c)) (after_label id f c).labelled (count_in (after_label id f c)) log (heard_at (after_label id f c) now)
+    (with_entry t f (new_connection (asked kind.Stream BUF_ALLOC) id true)) lines
+    (label_host c log (unfresh port) t lines x id f line here away whole none_behind inside sound alone given once)
+    (λ fresh. label_shaken c log (unfresh port) t lines x id f line here away whole none_behind inside sound alone given once (shaken fresh))
 
 -- DIAL: a connection opens with a new stream, on a REQUEST after which the log stays fair.
 module _ (c : HostContents) (log : Log) (port : Ports) (t : Table DeviceConnection) (hands : List Handshake) (x : IsStreamed c log port t hands)
@@ -438,4 +508,4 @@ module _ (c : HostContents) (log : Log) (port : Ports) (t : Table DeviceConnecti
             ∙ x.streams.lines.read i k within;
         undecided = x.streams.lines.undecided;
         apart = x.streams.lines.apart;
-      })
+      }) (λ fresh j u there busy other. x.shaken fresh j u there busy)

@@ -12,7 +12,8 @@ use Rattle.vs_page.specs.{Fair.{IsPrefixOf, number_of, payload_got, payload_put}
 use Rattle.vs_proxy_parts.specs.State.{Handshake}
 use Rattle.laws_tables.{specs.{Drains.{Drains, is_same, only_on}, Ends.is_new}, proofs.{Changes.{changed, others_left}, Logs.{longer, none_on_any, not_on, same_connection}}}
 use Rattle.laws_tables.proofs.Logs.{shorter, there_on}
-use Rattle.laws_device.specs.Carried.Streamed.{AreCounted, AreLabelled, AreLines, AreStreamed, HasLabel, IsJoined, IsLabelled, Ports, Seen, client_waits, connection_of, gives}
+use Rattle.laws_device.specs.Carried.Streamed.{AreCounted, AreLabelled, AreLines, AreShaken, AreShakenBut, AreStreamed, HasHand, HasLabel, IsJoined, IsLabelled, Ports}
+use Rattle.laws_device.specs.Carried.Streamed.{Seen, client_waits, connection_of, gives}
 use Rattle.laws_device.{specs.{Carried.Streamed.{line_for, reading, taken_of}, Named.Streams.stream_under}, proofs.Carried.{Lines.line_longer, Tabled.{stream_comes, stream_kept}}}
 use Rattle.laws_device.proofs.Carried.Tabled.{stream_now, stream_other, stream_stays}
 
@@ -22,7 +23,7 @@ some_inj x y is = cc
 pub one_seen : (at : ℕ → Option Seen) (id : ℕ) (s t : Seen) → at id ≡ Some s → at id ≡ Some t → s ≡ t
 one_seen at id s t is other = some_inj s t (sym is ∙ other)
 
-not_none : (s : Seen) (c : Connection) → s.label ≡ Some c → s.label ≡ None → ⊥
+pub not_none : (s : Seen) (c : Connection) → s.label ≡ Some c → s.label ≡ None → ⊥
 not_none s c is none = let both : Some c ≡ None = sym is ∙ none in absurd cc
 
 -- One place or another.
@@ -84,6 +85,7 @@ module _ (at now : ℕ → Option Seen) (labelled : List ℕ) (count : Flow → 
       waiting = λ id s there. x.streams.waiting id s (same id ∙ there);
       lines = same_lines lines x.streams.lines;
     };
+    shaken = λ fresh id s there. x.shaken fresh id s (same id ∙ there);
   }
 
 -- The same counts.
@@ -124,6 +126,7 @@ recounted at labelled count more log port t lines same x = record {
   }) t.entries x.joined;
   tabled = x.tabled;
   streams = recounted_labels at labelled count more log port lines same x.streams;
+  shaken = x.shaken;
 }
 
 -- The stream of a connection.
@@ -265,14 +268,18 @@ module _ (at now : ℕ → Option Seen) (labelled : List ℕ) (count : Flow → 
           )) (λ apart.
           let old = x.tabled id s d (others id apart ∙ seen) label still in (old.0, stream_other t sound e is c old.0 id old.1 apart));
       streams = moved_labels;
+      shaken = λ fresh id s seen busy. is_or_not id e.value.stream (HasHand lines id)
+          (λ id_is. absurd (not_none (after c.closed) k join.label (ap (λ (y : Seen). y.label) (here id s seen id_is) ∙ busy.free)))
+          (λ apart. x.shaken fresh id s (others id apart ∙ seen) busy);
     }
 
--- Other flows are kept to be used again, or fewer are served.
+-- Other flows are kept to be used again, fewer are served, or more or less is known of the host.
 pub kept_streamed : (at : ℕ → Option Seen) (labelled : List ℕ) (count : Flow → ℕ) (log : Log) (port next : Ports) (t : Table DeviceConnection) (lines : List Handshake)
     → AreStreamed at labelled count log port t lines → port.next ≡ next.next
     → (next.serving.room ≡ DEVICE_CONNECTIONS) × (next.serving.given ≤ length labelled)
-    → ((f : Flow) → AreCounted count port log f → AreCounted count next log f) → AreStreamed at labelled count log next t lines
-kept_streamed at labelled count log port next t lines x same slots counted = record {
+    → ((f : Flow) → AreCounted count port log f → AreCounted count next log f) → (next.fresh ≡ true → AreShaken at lines)
+    → AreStreamed at labelled count log next t lines
+kept_streamed at labelled count log port next t lines x same slots counted shaken = record {
   joined = x.joined;
   tabled = x.tabled;
   streams = record {
@@ -288,7 +295,20 @@ kept_streamed at labelled count log port next t lines x same slots counted = rec
     waiting = x.streams.waiting;
     lines = x.streams.lines;
   };
+  shaken = shaken;
 }
+
+-- The same, where it isn't known that the proxy accepted all clients; and what is then known of their streams.
+abbrev pub unfresh : Ports → Ports
+unfresh port = record port { fresh = false }
+
+pub forgets : (at : ℕ → Option Seen) (labelled : List ℕ) (count : Flow → ℕ) (log : Log) (port : Ports) (t : Table DeviceConnection) (lines : List Handshake)
+    → AreStreamed at labelled count log port t lines → AreStreamed at labelled count log (unfresh port) t lines
+forgets at labelled count log port t lines x = kept_streamed at labelled count log port (unfresh port) t lines x refl x.streams.slots (λ f y. y) (λ no. absurd cc)
+
+pub remembers : (at : ℕ → Option Seen) (labelled : List ℕ) (count : Flow → ℕ) (log : Log) (port : Ports) (t : Table DeviceConnection) (lines : List Handshake)
+    → AreStreamed at labelled count log (unfresh port) t lines → (port.fresh ≡ true → AreShaken at lines) → AreStreamed at labelled count log port t lines
+remembers at labelled count log port t lines x shaken = kept_streamed at labelled count log (unfresh port) port t lines x refl x.streams.slots (λ f y. y) shaken
 
 -- A connection leaves whose stream is closed.
 pub left_streamed : (at : ℕ → Option Seen) (labelled : List ℕ) (count : Flow → ℕ) (log : Log) (port : Ports) (t : Table DeviceConnection) (lines : List Handshake)
@@ -300,6 +320,7 @@ left_streamed at labelled count log port t lines x sound e is shut = record {
       let old = x.tabled id s c there label still in
       (old.0, stream_stays t sound e is old.0 id old.1 (apart id s there still));
   streams = x.streams;
+  shaken = x.shaken;
 }
   where
     apart : (id : ℕ) (s : Seen) → at id ≡ Some s → s.closed ≡ false → id ≢ e.value.stream
@@ -334,6 +355,7 @@ passed_streamed at labelled count log new port t lines x on came put got number 
     waiting = x.streams.waiting;
     lines = x.streams.lines;
   };
+  shaken = x.shaken;
 }
   where
     same_after : (c : Connection) → line_for c.flow ++ payload_got Device c new ≡ (line_for c.flow ++ payload_got Device c log) ++ only_on on came c
@@ -488,10 +510,16 @@ module _ (at now : ℕ → Option Seen) (labelled : List ℕ) (count more : Flow
       record { stream = h.stream; connection = h.connection; there = kept_there j h.stream h.connection h.there h.label; label = h.label }
   listed_then j (inr same) = record { stream = s; connection = k; there = ap now (sym same) ∙ there; label = label }
 
+  -- The others have their handshakes.
+  pub opened_shaken : AreShakenBut id at lines → AreShaken now lines
+  opened_shaken shaken j u seen busy = is_or_not j id (HasHand lines j)
+      (λ place. absurd (not_none u k (ap (λ (y : Seen). y.label) (sym (it_is j u seen place)) ∙ label) busy.free))
+      (λ other. shaken j u (others j other ∙ seen) busy other)
+
   pub opened_streamed : IsTable t → c.stream ≡ id → c.closed ≡ false → IsLabelled s k more new next
-      → IsJoined now more new (next_entry t k.flow c) → AreLines now lines
+      → IsJoined now more new (next_entry t k.flow c) → AreLines now lines → (next.fresh ≡ true → AreShakenBut id at lines)
       → AreStreamed now (labelled ++ id ∷ []) more new next (with_entry t k.flow c) lines
-  opened_streamed sound stream still here joins reads = record {
+  opened_streamed sound stream still here joins reads shaken = record {
     joined = All-push (IsJoined now more new) t.entries (next_entry t k.flow c)
         (λ i e within. still_joined (get_or t.entries i e) (apart i e within) (x.joined i e within)) joins;
     tabled = λ j u d seen on open_now. is_or_not j id ((slot : ℕ) × (stream_under (with_entry t k.flow c) slot ≡ Some j))
@@ -516,6 +544,7 @@ module _ (at now : ℕ → Option Seen) (labelled : List ℕ) (count more : Flow
           (λ other. x.streams.waiting j u (others j other ∙ seen) waits);
       lines = reads;
     };
+    shaken = λ fresh. opened_shaken (shaken fresh);
   }
 
 -- A stream was there before, or has no label and waits for nothing but to be accepted.
@@ -530,8 +559,8 @@ module _ (at now : ℕ → Option Seen) (labelled : List ℕ) (count : Flow → 
   labelled_before : (j : ℕ) (u : Seen) (d : Connection) → now j ≡ Some u → u.label ≡ Some d → at j ≡ Some u
   labelled_before j u d seen on = grind (arith, common_steps)
 
-  pub unlabelled_streamed : AreLines now lines → AreStreamed now labelled count log port t lines
-  unlabelled_streamed reads = record {
+  pub unlabelled_streamed : AreLines now lines → (port.fresh ≡ true → AreShaken now lines) → AreStreamed now labelled count log port t lines
+  unlabelled_streamed reads shaken = record {
     joined = All-weaker (IsJoined at count log) (IsJoined now count log)
         (λ e j. join_moves at now count log log e j (kept e.value.stream j.stream (connection_of e log) j.there j.label) refl refl) t.entries x.joined;
     tabled = λ j u d seen on. x.tabled j u d (labelled_before j u d seen on) on;
@@ -547,6 +576,7 @@ module _ (at now : ℕ → Option Seen) (labelled : List ℕ) (count : Flow → 
       waiting = λ j u seen waits. by j u waits (back j u seen).0 (back j u seen).1 (back j u seen).2;
       lines = reads;
     };
+    shaken = shaken;
   }
     where
       by : (j : ℕ) (u : Seen) → u.waiting ≡ true → (b : Bool) → (b ≡ true → at j ≡ Some u)
@@ -558,7 +588,7 @@ module _ (at now : ℕ → Option Seen) (labelled : List ℕ) (count : Flow → 
 pub one_streamed : (at now : ℕ → Option Seen) (labelled : List ℕ) (count : Flow → ℕ) (log : Log) (port : Ports) (t : Table DeviceConnection) (hands lines : List Handshake)
     → AreStreamed at labelled count log port t hands → (id : ℕ) (u : Seen) → now id ≡ Some u → u.label ≡ None → u.waiting ≡ false
     → ((b : Seen) → at id ≡ Some b → b.label ≡ None) → ((j : ℕ) → j ≢ id → at j ≡ now j) → AreLines now lines
-    → AreStreamed now labelled count log port t lines
+    → (port.fresh ≡ true → AreShaken now lines) → AreStreamed now labelled count log port t lines
 one_streamed at now labelled count log port t hands lines x id u there free busy was others = unlabelled_streamed at now labelled count log port t hands lines x
     (λ j v seen. is_or_not j id (IsBack at j v) (λ place.
     let one = one_seen now id u v there (ap now (sym place) ∙ seen) in (

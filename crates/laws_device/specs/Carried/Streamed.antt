@@ -99,14 +99,28 @@ serving_of stay s = record {
   lost = not stay || (not (s.faults == 0) || not (s.dropped == 0));
 }
 
--- The host ports that may be given: those from this one on, and those of flows that may be used again.
+-- What is known of a host since a proxy has it: whether its listeners stay as they are, and whether no stream of a client was accepted before, but such as
+-- are closed.
+pub record Since : Type 0 where
+  pub stays : Bool
+  pub fresh : Bool
+
+-- Its listeners stay, or they come and go on a host that began without streams.
+abbrev pub lasting : Bool → Since
+lasting fresh = record { stays = true; fresh = fresh }
+
+abbrev pub changing : Since
+changing = record { stays = false; fresh = true }
+
+-- The host ports that may be given: those from this one on, and those of flows that may be used again. And whether the proxy accepted all clients.
 pub record Ports : Type 0 where
   pub next : ℕ
   pub clean : List Flow
+  pub fresh : Bool
   pub serving : Serving
 
-abbrev pub ports_of : Bool → ℕ → DeviceState → Ports
-ports_of stay port s = record { next = port; clean = s.clean; serving = serving_of stay s }
+abbrev pub ports_of : Since → ℕ → DeviceState → Ports
+ports_of since port s = record { next = port; clean = s.clean; fresh = since.fresh; serving = serving_of since.stays s }
 
 abbrev pub heard_at : HostContents → Ports → Ports
 heard_at c port = record port { serving = record port.serving { listening = c.listening } }
@@ -153,6 +167,23 @@ pub record AreLines (at : ℕ → Option Seen) (lines : List Handshake) : Type 0
   pub undecided : All (λ h. is_decided CONNECT_MAX h.line ≡ false) lines
   pub apart : AllPairs (λ g h. g.stream ≢ h.stream) lines
 
+-- A client's stream that was accepted, has no label and isn't closed; and the handshake of a stream. Each such stream has one; or all but one do, while
+-- the whole line of that one is acted upon.
+pub record IsShaking (s : Seen) : Type 0 where
+  pub client : s.by_client ≡ true
+  pub accepted : s.waiting ≡ false
+  pub free : s.label ≡ None
+  pub still : s.closed ≡ false
+
+abbrev pub HasHand : List Handshake → ℕ → Type 0
+HasHand hands id = (h : Handshake) × Contains hands h × (h.stream ≡ id)
+
+abbrev pub AreShaken : (ℕ → Option Seen) → List Handshake → Type 0
+AreShaken at hands = (id : ℕ) (s : Seen) → at id ≡ Some s → IsShaking s → HasHand hands id
+
+abbrev pub AreShakenBut : ℕ → (ℕ → Option Seen) → List Handshake → Type 0
+AreShakenBut one at hands = (id : ℕ) (s : Seen) → at id ≡ Some s → IsShaking s → id ≢ one → HasHand hands id
+
 -- How many streams have a flow as label, against the REQUESTs on it. On a flow whose port the proxy assigned no REQUEST is put without a
 -- stream, and the newest stream may lack one; where the flow is kept to be used again, each stream has one. On any other flow a REQUEST that is
 -- dropped or refused gets no stream, and none follows it: so each REQUEST has one, where the device put a marked RST on the present connection,
@@ -189,13 +220,15 @@ pub record AreLabelled (at : ℕ → Option Seen) (labelled : List ℕ) (count :
   pub waiting : (id : ℕ) (s : Seen) → at id ≡ Some s → s.waiting ≡ true → s ≡ client_waits
   pub lines : AreLines at hands
 
--- Each connection has its stream, and each stream with a label that isn't closed is that of a connection.
+-- Each connection has its stream, and each stream with a label that isn't closed is that of a connection. Where the proxy accepted all clients, each of
+-- their streams that has no label and isn't closed is one whose line is being read.
 pub record AreStreamed (at : ℕ → Option Seen) (labelled : List ℕ) (count : Flow → ℕ) (log : Log) (port : Ports)
     (table : Table DeviceConnection) (hands : List Handshake) : Type 0 where
   pub joined : All (IsJoined at count log) table.entries
   pub tabled : (id : ℕ) (s : Seen) (c : Connection) → at id ≡ Some s → s.label ≡ Some c → s.closed ≡ false
       → (slot : ℕ) × (stream_under table slot ≡ Some id)
   pub streams : AreLabelled at labelled count log port hands
+  pub shaken : port.fresh ≡ true → AreShaken at hands
 
 abbrev pub IsStreamed : HostContents → Log → Ports → Table DeviceConnection → List Handshake → Type 0
 IsStreamed c log port table lines = AreStreamed (look c) c.labelled (count_in c) log (heard_at c port) table lines

@@ -1,10 +1,9 @@
 -- A host in memory, and the accounts of its streams, through each call of the proxy.
-use Rattle.std.proofs.{Common.{◌≡◌, ◌≢◌, ℕ, ◌+◌, List, [], ◌∷◌, ◌++◌, length, Option, Some, None, refl, sym, subst, ◌∙◌, arith}, lemmas.Grind.common_steps}
+use Rattle.std.proofs.{Common.{◌≡◌, ◌≢◌, ℕ, ◌+◌, [], ◌∷◌, ◌++◌, length, Option, Some, None, refl, sym, subst, ◌∙◌, arith}, lemmas.Grind.common_steps}
 use Rattle.std.specs.Option.{option_map}
 use Rattle.vs_flow.specs.declared.flow.Flow.{Flow}
-use Rattle.vs_header.specs.declared.Header.{Header}
 use Rattle.vs_outside.{specs.Host.{HostContents, Stream, stream_at, with_stream}, proofs.Frames.{keeps_others, stream_at-with_stream}}
-use Rattle.laws_proxy.specs.Account.{Made.{Account, delivering}, Tied.{IsRead}, Told.{Shows, ShowsAt, ShowsIn}}
+use Rattle.laws_proxy.specs.Account.{Made.{Account}, Tied.{IsRead}, Told.{Shows, ShowsAt, ShowsIn}}
 use Rattle.laws_device.proofs.Carried.{Hosts.{new_there, none_there as past_end, others_there}, Streamed.is_or_not}
 
 -- What is read of a stream stays lawful where nothing of it changes.

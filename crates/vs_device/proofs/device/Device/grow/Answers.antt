@@ -1,7 +1,7 @@
 use Rattle.std.proofs.Common.{◌≡◌, Some, sym, subst, ◌∙◌}
 use Rattle.vs_conn.specs.declared.end.Owed.TheVariants.{CreditUpdate}
 use Rattle.vs_device_parts.{proofs.Growing.grown_told, specs.{Growing.owed_in, State.DeviceState}}
-use Rattle.laws_device.{specs.{Honest.IsWith, Named.Streams.HasStreams, Streams.AreStreamedWith}, proofs.Growing.{grow_streamed, grow_streams, grow_with, grown_same}}
+use Rattle.laws_device.{specs.{Honest.IsWith, Named.Streams.HasStreams, Streams.AreStreamedSince}, proofs.Growing.{grow_streamed, grow_streams, grow_with, grown_same}}
 use Rattle.laws_proxy.{specs.Account.Told.AreAccounted, proofs.Account.Growing.grow_accounted}
 use Rattle.vs_device.proofs.device.Device.grow.Goals as goal
 
@@ -25,9 +25,9 @@ returns-clause-honest c = λ first port ring holds.
     (grow_with c.args.slot c.args.alloc c.args.self.now first port ring holds)
 
 pub returns-clause-streamed : goal.returns-clause-streamed
-returns-clause-streamed c = λ first port lines a holds streams.
-    subst (λ (s : DeviceState). AreStreamedWith first port lines s a) (sym c.grow_in.ensures.state)
-    (grow_streamed c.args.slot c.args.alloc c.args.self.now first port lines a holds streams)
+returns-clause-streamed c = λ fresh first port lines a holds streams.
+    subst (λ (s : DeviceState). AreStreamedSince fresh first port lines s a) (sym c.grow_in.ensures.state)
+    (grow_streamed c.args.slot c.args.alloc c.args.self.now fresh first port lines a holds streams)
 
 pub returns-clause-bytes : goal.returns-clause-bytes
 returns-clause-bytes c = λ calls hands host was.

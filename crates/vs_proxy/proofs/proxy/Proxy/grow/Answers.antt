@@ -2,7 +2,7 @@ use Rattle.std.proofs.Common.{sym, ap, subst, ◌∙◌}
 use Rattle.vs_device_parts.specs.{Playing.IsItsRing, State.counters_of}
 use Rattle.vs_proxy_parts.specs.{Handshakes.streams_of, State.ProxyState}
 use Rattle.laws_device.specs.Named.Streams.{HasStreams}
-use Rattle.laws_proxy.{specs.{Account.Told.AreAccounted, Honest.{IsProxyStreamed, IsProxyWith}, Order.IsInOrder}, proofs.Growing.{flow_grow_accounted, flow_grow_counts}}
+use Rattle.laws_proxy.{specs.{Account.Told.AreAccounted, Honest.{IsProxyStreamedSince, IsProxyWith}, Order.IsInOrder}, proofs.Growing.{flow_grow_accounted, flow_grow_counts}}
 use Rattle.laws_proxy.proofs.Growing.{flow_grow_order, flow_grow_ring, flow_grow_streamed, flow_grow_streams, flow_grow_with, flow_grown_same}
 use Rattle.vs_proxy.proofs.proxy.Proxy.grow.Goals as goal
 
@@ -35,9 +35,9 @@ returns-clause-honest c = λ first ring holds.
     (flow_grow_with c.args.flow c.args.alloc c.args.self.now first ring holds)
 
 pub returns-clause-streamed : goal.returns-clause-streamed
-returns-clause-streamed c = λ first a holds streams.
-    subst (λ (s : ProxyState). IsProxyStreamed first s a) (sym c.grow_on.ensures.state)
-    (flow_grow_streamed c.args.flow c.args.alloc c.args.self.now first a holds streams)
+returns-clause-streamed c = λ fresh first a holds streams.
+    subst (λ (s : ProxyState). IsProxyStreamedSince fresh first s a) (sym c.grow_on.ensures.state)
+    (flow_grow_streamed c.args.flow c.args.alloc c.args.self.now fresh first a holds streams)
 
 pub returns-clause-bytes : goal.returns-clause-bytes
 returns-clause-bytes c = λ calls host was.
