@@ -1,7 +1,7 @@
 //! The gate of a real run.
 ghost use Rattle.std.specs.Prelude.{◌≡◌};
 
-use crate::shared_count::SharedCount;
+use crate::moves::Moves;
 use std::cell::Cell;
 use std::marker::Model;
 use std::time::{Clock, Duration};
@@ -10,22 +10,16 @@ use vs_outside::Gate;
 
 /// So many pauses in a row keep the processor and look again after a moment: a sleep takes longer than it is asked for, and where the other
 /// side moves soon that would be the longer wait.
-const LOOKS: u64 = 256;
-
-/// Where more apps than this run beside each other, those that look keep those that move from the processors.
-const FEW_APPS: u64 = 16;
-
-/// So there only so many pauses do.
-const LOOKS_OF_MANY: u64 = 8;
+const LOOKS: u32 = 256;
 
 /// How often such a pause tells the processor that it waits.
 const SPINS: u32 = 16;
 
 /// So many pauses behind them give up the processor at once, for a microsecond, which is as short as the system's clock allows.
-const SHORT_PAUSES: u64 = 16;
+const SHORT_PAUSES: u32 = 16;
 
 /// So many pauses behind them take twice as long each as the one before. Those after them take a millisecond.
-const LONGER_PAUSES: u64 = 10;
+const LONGER_PAUSES: u32 = 10;
 
 /// A gate that holds nothing up, for one thread. A step that moved nothing is made again at once, and where some of these are in a row the
 /// thread sleeps the longer the more they are, so that one that waits for long takes next to no processor time.
@@ -41,10 +35,8 @@ pub struct BackoffGate<R> {
     // how many steps and turns there were since the last pause
     steps: Cell<u32>,
     // what moves on a host's streams, and how often it did until the last pause
-    moves: Option<SharedCount>,
+    moves: Option<Moves>,
     moved: u64,
-    // how many apps have begun, where the gate is that of a run's thread
-    apps: Option<SharedCount>,
 }
 
 impl<R> Model for BackoffGate<R> {
@@ -67,37 +59,20 @@ impl<R: Clock> BackoffGate<R> {
             steps: Cell::new(0),
             moves: None,
             moved: 0,
-            apps: None,
-        }
-    }
-
-    /// Such a gate for a thread of a run, beside the threads whose gates share this count of the apps that have begun.
-    pub fn among(rt: R, apps: SharedCount) -> BackoffGate<R>
-        ensures { result ≡ 0 }
-    {
-        BackoffGate {
-            apps: Some(apps),
-            ..BackoffGate::new(rt)
         }
     }
 
     /// A gate without pauses, for a thread that moves bytes on the streams of a host.
-    pub fn beside(rt: R, moves: SharedCount) -> BackoffGate<R>
+    pub fn beside(rt: R, moves: Moves) -> BackoffGate<R>
         ensures { result ≡ 0 }
     {
         BackoffGate {
+            rt,
+            pauses: 0,
+            row: 0,
+            steps: Cell::new(0),
             moves: Some(moves),
-            ..BackoffGate::new(rt)
-        }
-    }
-
-    // How many pauses in a row keep the processor.
-    fn looks(&self) -> u64 {
-        let apps = self.apps.as_ref().map_or(1, |apps| apps.count());
-        if apps > FEW_APPS {
-            LOOKS_OF_MANY
-        } else {
-            LOOKS
+            moved: 0,
         }
     }
 
@@ -121,9 +96,6 @@ impl<R: Clock> Gate for BackoffGate<R> {
     ghost pauses = { λ g. g };
 
     fn before(&self, app: usize, step: u64) {
-        if let (Some(apps), 1) = (&self.apps, step) {
-            apps.add();
-        }
         self.count_step();
     }
 
@@ -138,7 +110,7 @@ impl<R: Clock> Gate for BackoffGate<R> {
         if self.has_moved() {
             self.row = 0;
         }
-        match u64::from(self.row).checked_sub(self.looks()) {
+        match self.row.checked_sub(LOOKS) {
             None => look_again(),
             Some(row) => thread::sleep(&self.rt, rest_behind(row)),
         }
@@ -154,7 +126,7 @@ fn look_again() {
 }
 
 // How long a sleep is behind so many in a row.
-fn rest_behind(row: u64) -> Duration {
+fn rest_behind(row: u32) -> Duration {
     let longer = row.saturating_sub(SHORT_PAUSES);
     if longer < LONGER_PAUSES {
         Duration::from_micros(1u64 << longer)

@@ -2,7 +2,7 @@
 ghost use Rattle.std.specs.Prelude.{◌≡◌};
 ghost use Rattle.vs_outside.specs.Faults.{CountsFault};
 
-use crate::shared_count::SharedCount;
+use crate::moves::Moves;
 use crate::sockets::Sockets;
 use crate::starting::{MadePath, StartError};
 use std::alloc::{AllocError, AllocGlobal};
@@ -27,7 +27,7 @@ pub struct UnixHost<R: Net + Files + AllocGlobal + Drop> {
     sockets: Sockets,
     made: MadePath,
     start_error: Option<StartError>,
-    moves: SharedCount,
+    moves: Moves,
     faults: u64,
 }
 
@@ -36,7 +36,7 @@ impl<R: Net + Files + AllocGlobal + Drop> UnixHost<R> {
     pub fn new(rt: R) -> io::Result<UnixHost<R>> {
         let sockets = Sockets::new(&rt)?;
         let made = MadePath::new(rt.alloc())?;
-        let moves = SharedCount::new(rt.alloc())?;
+        let moves = Moves::new(rt.alloc())?;
         Ok(UnixHost {
             rt,
             sockets,
@@ -53,7 +53,7 @@ impl<R: Net + Files + AllocGlobal + Drop> UnixHost<R> {
     }
 
     /// The count of reads and writes that moved bytes.
-    pub fn moves(&self) -> Result<SharedCount, AllocError> {
+    pub fn moves(&self) -> Result<Moves, AllocError> {
         self.moves.try_clone()
     }
 

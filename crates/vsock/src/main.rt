@@ -8,7 +8,7 @@ use std::io::{self, ErrorKind};
 use std::net::Net;
 use std::process::ExitCode;
 use std::time::Clock;
-use vs_real::{BackoffGate, MachineClock, ReadSource, SharedCount, UnixHost, WriteSink};
+use vs_real::{BackoffGate, MachineClock, ReadSource, UnixHost, WriteSink};
 use vs_run::{host_fault, no_memory, vsock_main};
 
 /// The gates of the threads of a run: one for each of 64 apps, and one for the thread that turns the device.
@@ -66,10 +66,9 @@ fn outside<R: AllocGlobal + Env + Net + Files + Clock + Clone + Drop>(
 
 /// The gates of a run.
 fn gates<R: AllocGlobal + Clock + Clone + Drop>(rt: &R) -> Result<Vec<BackoffGate<R>>, AllocError> {
-    let apps = SharedCount::new(rt.alloc())?;
     let mut gates = Vec::new(rt.alloc());
     for _ in 0..GATES {
-        gates.push(BackoffGate::among(rt.clone()?, apps.try_clone()?))?;
+        gates.push(BackoffGate::new(rt.clone()?))?;
     }
     Ok(gates)
 }
