@@ -441,7 +441,10 @@ no_labels c port t empty slots unlabelled none waits fresh = record {
       apart = λ i j h less within. absurd (omega (arith, within));
     };
   };
-  shaken = λ is id s there busy. absurd (fresh is id s there busy);
+  shaken = λ is. record {
+    hand = λ id s there busy. absurd (fresh is id s there busy);
+    older = λ i j s u there busy at waits. absurd (fresh is i s there busy);
+  };
 }
   where
     nowhere : {id : ℕ} → Contains [] id → ⊥

@@ -1,7 +1,7 @@
 -- What the host's streams took and gave, through the calls of the proxy and of the host's programs.
 use Rattle.std.proofs.Common.{arith}
 use Rattle.std.proofs.lemmas.Grind.{common_steps}
-use Rattle.std.proofs.Common.{◌≡◌, ◌≢◌, ℕ, Bool, true, false, cond, List, [], ◌∷◌, ◌++◌, take, get_or, ◌+◌, length, Contains, Option, Some, None, refl, sym, ap, subst, ◌∙◌, ◌⊎◌}
+use Rattle.std.proofs.Common.{◌≡◌, ◌≢◌, ℕ, Bool, true, false, cond, List, [], ◌∷◌, ◌++◌, take, get_or, ◌+◌, ◌-◌, ◌<◌, ◌==◌, nat_lt, length, Contains, Option, Some, None, refl, sym, ap, subst, ◌∙◌, ◌⊎◌}
 use Rattle.std.{proofs.{Common.{inl, inr}, lemmas.List.{append-nil, Elements.{All-push, All-weaker}, Quantifiers.all_pairs_push}}, specs.{List.All, Option.option_map}}
 use Rattle.std.specs.Option.{option_map_or}
 use Rattle.vs_outside.specs.Host.{HostContents, Stream, accept_answer, after_accept, after_close, after_read, after_write, called, give_bytes, next_bytes, stream_at, take_bytes}
@@ -13,9 +13,11 @@ use Rattle.vs_page.specs.{Fair.{number_of, payload_got, payload_put}, Log.{Devic
 use Rattle.vs_proxy_parts.specs.State.{Handshake}
 use Rattle.vs_uds.specs.{Reading.is_decided, declared.connect.TheConstants.CONNECT_MAX}
 use Rattle.laws_tables.{specs.{Drains.{Drains, only_on}, Ends.is_new}, proofs.{Changes.others_left, Logs.none_on_any, Goes.drops}}
-use Rattle.laws_device.specs.Carried.Streamed.{AreCounted, AreLabelled, AreShaken, AreShakenBut, AreStreamed, HasHand, IsJoined, IsLabelled, IsShaking, IsStreamed, Ports, Seen}
+use Rattle.laws_device.specs.Carried.Streamed.{AreCounted, AreLabelled, AreOlder, AreShaken, AreShakenBut, AreStreamed, HasHand, IsJoined, IsLabelled, IsShaking, IsStreamed, Ports, Seen}
 use Rattle.laws_device.specs.Carried.Streamed.{client_waits, connection_of, count_in, gives, heard_at}
-use Rattle.laws_device.proofs.Carried.Hands.{has_pushed, pushes}
+use Rattle.laws_device.proofs.Carried.{Hands.{has_pushed, pushes}, Streamed.older_back}
+use Rattle.std.{proofs.lemmas.{Bool.Decides.nat_tests, List.Quantifiers.position-Some, Option.{get_or_from_slice_get, slice_get_within}}, specs.Prelude.{position, slice_get}}
+use Rattle.vs_outside.specs.Host.{fails_now, is_waiting}
 use Rattle.laws_device.{specs.Carried.Streamed.{has_line, line_for, look, reading, seen, seen_as, taken_of}, proofs.Carried.Streamed.{one_seen, is_or_not, join_moves, join_of}}
 use Rattle.laws_device.proofs.Carried.{Streamed.{moved_streamed, no_entry, one_streamed, recounted, recounted_labels, same_streamed, unlabelled_streamed}, Tabled.stream_stays}
 use Rattle.laws_device.proofs.Carried.{Lines.after_longer, Hosts.{changed_seen, counts_more, counts_still, new_look, none_there, others_look, others_seen, there, unseen_none}}
@@ -85,12 +87,26 @@ module _ (id : ℕ) (c : HostContents) where
       by b was (inl (same, apart)) = (was ∙ ap (λ (s : Seen). Some s) (sym same), apart)
       by b was (inr closed) = let both : true ≡ false = sym (ap (λ (s : Seen). s.closed) closed) ∙ still in absurd cc
 
+  shut_older : AreOlder (look c) → AreOlder (look shut_host)
+  shut_older = older_back (look c) (look shut_host) (λ j u now busy. (u, (open_before j u now busy.still).0, busy))
+      (λ j u now waits. let w = was_seen j u now in (w.before, w.there, by w.before u waits w.how))
+    where
+      by : (b u : Seen) → u.waiting ≡ true → {i j : ℕ} → ((u ≡ b) × (i ≢ j)) ⊎ (u ≡ shut b) → b.waiting ≡ true
+      by b u waits (inl (same, apart)) = ap (λ (s : Seen). s.waiting) (sym same) ∙ waits
+      by b u waits (inr closed) = let both : false ≡ true = sym (ap (λ (s : Seen). s.waiting) closed) ∙ waits in absurd cc
+
   -- It needs no handshake any more.
   pub shut_last : (hands : List Handshake) → AreShakenBut id (look c) hands → AreShaken (look shut_host) hands
-  shut_last hands shaken j u now busy = let before = open_before j u now busy.still in shaken j u before.0 busy before.1
+  shut_last hands shaken = record {
+    hand = λ j u now busy. let before = open_before j u now busy.still in shaken.hand j u before.0 busy before.1;
+    older = shut_older shaken.older;
+  }
 
   pub shut_shaken : (hands : List Handshake) → AreShaken (look c) hands → AreShaken (look shut_host) hands
-  shut_shaken hands shaken j u now busy = shaken j u (open_before j u now busy.still).0 busy
+  shut_shaken hands shaken = record {
+    hand = λ j u now busy. shaken.hand j u (open_before j u now busy.still).0 busy;
+    older = shut_older shaken.older;
+  }
 
   module _ (log : Log) (port : Ports) (hands : List Handshake) (x : AreLabelled (look c) c.labelled (count_in c) log port hands)
       (away : All (λ h. h.stream ≢ id) hands) where
@@ -287,6 +303,14 @@ module _ (y : Stream) (c : HostContents) (free : y.label ≡ None) where
       sym (others_look y c free j (λ place.
       let both : None ≡ Some u = sym (ap (look c) place ∙ ap (option_map (seen c (length c.streams + 1))) (none_there y c)) ∙ is in absurd cc)) ∙ is
 
+-- An id that is that of a stream is one of as many as there are.
+look_within : (i : ℕ) (c : HostContents) (s : Seen) → look c i ≡ Some s → i < length c.streams + 1
+look_within i c s is = let st = there i c s is in by (i == 0) refl st.stream st.at
+  where
+    by : (b : Bool) → (i == 0) ≡ b → (st : Stream) → cond b None (slice_get c.streams (i - 1)) ≡ Some st → i < length c.streams + 1
+    by true zero_is st at = absurd cc
+    by false some st at = let less = slice_get_within c.streams (i - 1) st at in omega (arith, less)
+
 pub client_host : (c : HostContents) (log : Log) (port : Ports) (t : Table DeviceConnection) (hands : List Handshake) → IsStreamed c log port t hands
     → IsStreamed (after_client c) log port t hands
 client_host c log port t hands x =
@@ -299,13 +323,50 @@ client_host c log port t hands x =
           (x.streams.lines.read i h within);
       undecided = x.streams.lines.undecided;
       apart = x.streams.lines.apart;
-    }) (λ fresh j u is busy. let b = more_back client_stream c refl j u is in by j u (x.shaken fresh) busy b.0 b.1 b.2))
+    }) (λ fresh. record {
+      hand = λ j u is busy. (x.shaken fresh).hand j u (was j u is busy) busy;
+      older = λ i j s u is busy at waits. is_or_not j (length c.streams + 1) (i < j)
+          (λ place. let less = look_within i c s (was i s is busy) in omega (arith, place, less))
+          (λ other. (x.shaken fresh).older i j s u (was i s is busy) busy (others_look client_stream c refl j other ∙ at) waits);
+    }))
   where
-    by : (j : ℕ) (u : Seen) → AreShaken (look c) hands → IsShaking u → (b : Bool) → (b ≡ true → look c j ≡ Some u)
-        → (b ≡ false → (u ≡ seen_as None client_stream) × (look c j ≡ None)) → HasHand hands j
-    by j u shaken busy true old new = shaken j u (old refl) busy
-    by j u shaken busy false old new =
+    by : (j : ℕ) (u : Seen) → IsShaking u → (b : Bool) → (b ≡ true → look c j ≡ Some u)
+        → (b ≡ false → (u ≡ seen_as None client_stream) × (look c j ≡ None)) → look c j ≡ Some u
+    by j u busy true old new = old refl
+    by j u busy false old new =
         let both : true ≡ false = sym (ap (λ (s : Seen). s.waiting) (new refl).0) ∙ busy.accepted in absurd cc
+
+    was : (j : ℕ) (u : Seen) → look (after_client c) j ≡ Some u → IsShaking u → look c j ≡ Some u
+    was j u is busy = let b = more_back client_stream c refl j u is in by j u busy b.0 b.1 b.2
+
+-- The client that is accepted is the oldest one that waits.
+accepted_place : (b : Bool) (o : Option ℕ) (id : ℕ)
+    → cond b accepted.Failed (option_map_or accepted.Stream (option_map (λ (place : ℕ). place + 1) o) accepted.None) ≡ accepted.Stream id
+    → (place : ℕ) × (o ≡ Some place) × (place + 1 ≡ id)
+accepted_place true o id is = absurd cc
+accepted_place false None id is = absurd cc
+accepted_place false (Some place) id is = (place, refl, cc)
+
+oldest_first : (id : ℕ) (c : HostContents) → accept_answer c ≡ accepted.Stream id → (j : ℕ) (u : Seen) → look c j ≡ Some u → u.waiting ≡ true → j ≢ id
+    → id < j
+oldest_first id c answer j u seen_now waiting apart =
+    let p = accepted_place (fails_now c) (position is_waiting c.streams) id answer in
+    let q = position-Some is_waiting c.streams p.0 client_stream p.1 in
+    let st = there j c u seen_now in
+    let waits_now : is_waiting st.stream ≡ true = ap (λ (s : Seen). s.waiting) st.is ∙ waiting in
+    by p.0 p.2 q.2 st.stream waits_now (j == 0) refl st.at
+  where
+    by : (place : ℕ) → place + 1 ≡ id → ((k : ℕ) → k < place → is_waiting (get_or c.streams k client_stream) ≡ false) → (st : Stream)
+        → is_waiting st ≡ true → (b : Bool) → (j == 0) ≡ b → cond b None (slice_get c.streams (j - 1)) ≡ Some st → id < j
+    by place is first st waits_now true zero_is at = absurd cc
+    by place is first st waits_now false some at = before (nat_lt (j - 1) place) refl
+      where
+        before : (b : Bool) → nat_lt (j - 1) place ≡ b → id < j
+        before true less =
+            let below : j - 1 < place = grind (arith, nat_tests, less) in
+            let both : true ≡ false = sym waits_now ∙ ap is_waiting (sym (get_or_from_slice_get c.streams (j - 1) st client_stream at)) ∙ first (j - 1) below in
+            absurd cc
+        before false not_less = grind (arith, nat_tests, not_less, some, is, apart)
 
 -- ACCEPT: the client's line begins.
 pub accepted_host : (id now : ℕ) (c : HostContents) (log : Log) (port : Ports) (t : Table DeviceConnection) (hands : List Handshake)
@@ -334,10 +395,19 @@ accepted_host id now c log port t hands answer x =
       apart = all_pairs_push (λ (g : Handshake) (h : Handshake). g.stream ≢ h.stream) hands
           (record { stream = id; accepted_at = now; line = [] }) x.streams.lines.apart
           (λ k h within same. read_apart st was a.1 (get_or hands k h) (ap (look c) (sym same) ∙ x.streams.lines.read k h within));
-    }) (λ fresh j u seen_now busy. is_or_not j id (HasHand (hands ++ record { stream = id; accepted_at = now; line = [] } ∷ []) j)
-    (λ place. subst (HasHand (hands ++ record { stream = id; accepted_at = now; line = [] } ∷ [])) (sym place)
-    (pushes (record { stream = id; accepted_at = now; line = [] }) hands))
-    (λ other. has_pushed j (record { stream = id; accepted_at = now; line = [] }) hands (x.shaken fresh j u (others j other ∙ seen_now) busy))))
+    }) (λ fresh. record {
+      hand = λ j u seen_now busy. is_or_not j id (HasHand (hands ++ record { stream = id; accepted_at = now; line = [] } ∷ []) j)
+          (λ place. subst (HasHand (hands ++ record { stream = id; accepted_at = now; line = [] } ∷ [])) (sym place)
+          (pushes (record { stream = id; accepted_at = now; line = [] }) hands))
+          (λ other. has_pushed j (record { stream = id; accepted_at = now; line = [] }) hands ((x.shaken fresh).hand j u (others j other ∙ seen_now) busy));
+      older = λ i j s u is busy at waits.
+          let apart : j ≢ id = λ place.
+          let one : reading [] ≡ u = some_seen (reading []) u (sym is_now ∙ ap (look d) (sym place) ∙ at) in
+          let both : false ≡ true = ap (λ (y : Seen). y.waiting) one ∙ waits in absurd cc in
+          let before : look c j ≡ Some u = others j apart ∙ at in
+          is_or_not i id (i < j) (λ place. let less = oldest_first id c answer j u before waits apart in omega (arith, place, less))
+          (λ other. (x.shaken fresh).older i j s u (others i other ∙ is) busy before waits);
+    }))
   where
     read_apart : (st : Stream) → seen c id st ≡ client_waits → stream_at id c ≡ Some st → (h : Handshake) → look c id ≡ Some (reading h.line) → ⊥
     read_apart st was at h is =

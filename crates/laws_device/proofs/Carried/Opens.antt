@@ -17,11 +17,11 @@ use Rattle.vs_page.{specs.declared.log.LogEntry.TheVariants.GotPacket, proofs.{F
 use Rattle.vs_proxy_parts.specs.{Handshakes.{with_line, without_stream}, State.Handshake}
 use Rattle.vs_uds.specs.{OkLine.ok_text, Reading.is_decided, declared.connect.TheConstants.CONNECT_MAX}
 use Rattle.laws_tables.{specs.{Drains.Drains, Ends.{AreDistinct, is_among}, Steps.port_after}, proofs.Adding.{got_nothing, put_over_got}}
-use Rattle.laws_device.specs.Carried.Streamed.{Serving, heard_at, serves, AreCounted, AreLines, AreShaken, AreShakenBut, AreStreamed, CountMatches, HasHand, IsShaking, IsStreamed}
+use Rattle.laws_device.specs.Carried.Streamed.{Serving, heard_at, serves, AreCounted, AreLines, AreOlder, AreShaken, AreShakenBut, AreStreamed, CountMatches, HasHand, IsShaking, IsStreamed}
 use Rattle.laws_device.specs.Carried.Streamed.{Ports, Seen, connection_of, count_in, has_line, line_for, look, reading}
 use Rattle.laws_device.{specs.Carried.Streamed.{seen, seen_as}, proofs.Carried.Hosts.{changed_seen, counts_still, counts_then, here_then, new_there, none_there, others_seen}}
 use Rattle.laws_device.proofs.Carried.{Hosts.{others_then, others_there, there}, HostCalls.{closed_host, shut_last, some_seen}, Counted.{IsAsked, counted_on, fewer_served, kept_less, slot_served}}
-use Rattle.laws_device.proofs.Carried.{Counted.{number_elsewhere, request_asks}, Streamed.{forgets, is_or_not, not_none, one_streamed, opened_streamed}}
+use Rattle.laws_device.proofs.Carried.{Counted.{number_elsewhere, request_asks}, Streamed.{forgets, is_or_not, not_none, older_back, one_streamed, opened_streamed}}
 use Rattle.laws_device.proofs.Carried.{Streamed.{recounted, remembers, unfresh}, Hands.{has_with, has_without, with_all, with_apart, without_all}}
 use Rattle.laws_device.proofs.{Carried.Hands.{without_none, without_pairs}, Clean.{port_below, port_rises, removed_among, removed_own}}
 use Rattle.vs_header.specs.declared.Kind.TheVariants as kind
@@ -111,7 +111,10 @@ without_host c log port t hands id x = other_lines c log port t hands (without_s
 
 -- All other streams have their handshakes.
 without_shaken : (at : ℕ → Option Seen) (id : ℕ) (hands : List Handshake) → AreShaken at hands → AreShakenBut id at (without_stream id hands)
-without_shaken at id hands shaken j u there busy other = has_without j id hands (shaken j u there busy) other
+without_shaken at id hands shaken = record {
+  hand = λ j u there busy other. has_without j id hands (shaken.hand j u there busy) other;
+  older = shaken.older;
+}
 
 -- Its stream is closed.
 pub closed_over : (id : ℕ) (c : HostContents) (log : Log) (port : Ports) (t : Table DeviceConnection) (lines : List Handshake)
@@ -165,10 +168,18 @@ module _ (c : HostContents) (log : Log) (port : Ports) (t : Table DeviceConnecti
       (λ b is. ap (λ (s : Seen). s.label) (sym (some_seen (reading h.line) b (sym hand.there ∙ is)))) others_now reads shaken)
 
   -- Each of the streams was one of those before.
-  was_shaken : AreShaken (look c) hands → (j : ℕ) (u : Seen) → look read_on j ≡ Some u → IsShaking u → HasHand hands j
-  was_shaken shaken j u seen_now busy = is_or_not j id (HasHand hands j)
-      (λ place. shaken j (reading h.line) (ap (look c) place ∙ hand.there) (record { client = refl; accepted = refl; free = refl; still = refl }))
-      (λ other. shaken j u (others_now j other ∙ seen_now) busy)
+  was_shaken : (j : ℕ) (u : Seen) → look read_on j ≡ Some u → IsShaking u → (v : Seen) × (look c j ≡ Some v) × IsShaking v
+  was_shaken j u seen_now busy = is_or_not j id ((v : Seen) × (look c j ≡ Some v) × IsShaking v)
+      (λ place. (reading h.line, ap (look c) place ∙ hand.there, record { client = refl; accepted = refl; free = refl; still = refl }))
+      (λ other. (u, others_now j other ∙ seen_now, busy))
+
+  has_hand : AreShaken (look c) hands → (j : ℕ) (u : Seen) → look read_on j ≡ Some u → IsShaking u → HasHand hands j
+  has_hand shaken j u seen_now busy = let v = was_shaken j u seen_now busy in shaken.hand j v.0 v.1 v.2
+
+  still_older : AreOlder (look c) → AreOlder (look read_on)
+  still_older = older_back (look c) (look read_on) was_shaken (λ j u seen_now waits. (u, others_now j (λ place.
+      let one : reading (h.line ++ bytes) ≡ u = some_seen (reading (h.line ++ bytes)) u (sym line_now ∙ ap (look read_on) (sym place) ∙ seen_now) in
+      let both : false ≡ true = ap (λ (y : Seen). y.waiting) one ∙ waits in absurd cc) ∙ seen_now, waits))
 
   pub line_more : is_decided CONNECT_MAX (h.line ++ bytes) ≡ false → IsStreamed read_on log port t (with_line id (h.line ++ bytes) hands)
   line_more open_line = goes_with (with_line id (h.line ++ bytes) hands) (record {
@@ -178,7 +189,10 @@ module _ (c : HostContents) (log : Log) (port : Ports) (t : Table DeviceConnecti
     undecided = with_all (λ (g : Handshake). is_decided CONNECT_MAX g.line ≡ false) (λ (g : Handshake). is_decided CONNECT_MAX g.line ≡ false)
         id (h.line ++ bytes) hands x.streams.lines.apart x.streams.lines.undecided (λ g same old. open_line) (λ g other old. old);
     apart = with_apart id (h.line ++ bytes) hands x.streams.lines.apart;
-  }) (λ fresh j u seen_now busy. has_with j id (h.line ++ bytes) hands (was_shaken (x.shaken fresh) j u seen_now busy))
+  }) (λ fresh. record {
+    hand = λ j u seen_now busy. has_with j id (h.line ++ bytes) hands (has_hand (x.shaken fresh) j u seen_now busy);
+    older = still_older (x.shaken fresh).older;
+  })
 
   reads_over : AreLines (look read_on) (without_stream id hands)
   reads_over = record {
@@ -192,7 +206,10 @@ module _ (c : HostContents) (log : Log) (port : Ports) (t : Table DeviceConnecti
 
   -- All streams but its own have their handshakes.
   pub line_left : port.fresh ≡ true → AreShakenBut id (look read_on) (without_stream id hands)
-  line_left fresh j u seen_now busy other = has_without j id hands (was_shaken (x.shaken fresh) j u seen_now busy) other
+  line_left fresh = record {
+    hand = λ j u seen_now busy other. has_without j id hands (has_hand (x.shaken fresh) j u seen_now busy) other;
+    older = still_older (x.shaken fresh).older;
+  }
 
 -- A line that is whole.
 pub line_over : (c : HostContents) (log : Log) (port : Ports) (t : Table DeviceConnection) (hands : List Handshake) (x : IsStreamed c log port t hands)
@@ -365,14 +382,22 @@ module _ (c : HostContents) (log : Log) (port : Ports) (t : Table DeviceConnecti
         read = λ i h within. sym (others_labelled (get_or lines i h).stream (away i h within)) ∙ x.streams.lines.read i h within;
         undecided = x.streams.lines.undecided;
         apart = x.streams.lines.apart;
-      }) (λ fresh j u there busy other. x.shaken fresh j u there busy))
+      }) (λ fresh. record { hand = λ j u there busy other. (x.shaken fresh).hand j u there busy; older = (x.shaken fresh).older }))
 
   -- It needs no handshake any more.
   pub label_shaken : AreShakenBut id (look c) lines → AreShaken (look labelled_now) lines
-  label_shaken shaken j u seen_now busy = is_or_not j id (HasHand lines j)
-      (λ place. absurd (not_none u first (ap (λ (s : Seen). s.label)
-      (some_seen u (record (reading line) { label = Some first }) (sym seen_now ∙ ap (look labelled_now) place ∙ label_seen))) busy.free))
-      (λ other. shaken j u (others_labelled j other ∙ seen_now) busy other)
+  label_shaken shaken = record {
+    hand = λ j u seen_now busy. let other = apart j u seen_now busy in shaken.hand j u (others_labelled j other ∙ seen_now) busy other;
+    older = older_back (look c) (look labelled_now) (λ j u seen_now busy. (u, others_labelled j (apart j u seen_now busy) ∙ seen_now, busy))
+        (λ j u seen_now waits. (u, others_labelled j (λ place.
+        let both : false ≡ true = sym (ap (λ (s : Seen). s.waiting) (it_is j u seen_now place)) ∙ waits in absurd cc) ∙ seen_now, waits)) shaken.older;
+  }
+    where
+      it_is : (j : ℕ) (u : Seen) → look labelled_now j ≡ Some u → j ≡ id → u ≡ record (reading line) { label = Some first }
+      it_is j u seen_now place = some_seen u (record (reading line) { label = Some first }) (sym seen_now ∙ ap (look labelled_now) place ∙ label_seen)
+
+      apart : (j : ℕ) (u : Seen) → look labelled_now j ≡ Some u → IsShaking u → j ≢ id
+      apart j u seen_now busy place = not_none u first (ap (λ (s : Seen). s.label) (it_is j u seen_now place)) busy.free
 
 -- The line's stream had no handshake before.
 pub label_over : (c : HostContents) (log : Log) (port : Ports) (t : Table DeviceConnection) (lines : List Handshake) (x : IsStreamed c log (unfresh port) t lines)
@@ -508,4 +533,4 @@ module _ (c : HostContents) (log : Log) (port : Ports) (t : Table DeviceConnecti
             ∙ x.streams.lines.read i k within;
         undecided = x.streams.lines.undecided;
         apart = x.streams.lines.apart;
-      }) (λ fresh j u there busy other. x.shaken fresh j u there busy)
+      }) (λ fresh. record { hand = λ j u there busy other. (x.shaken fresh).hand j u there busy; older = (x.shaken fresh).older })

@@ -12,7 +12,7 @@ use Rattle.vs_page.specs.{Fair.{IsPrefixOf, number_of, payload_got, payload_put}
 use Rattle.vs_proxy_parts.specs.State.{Handshake}
 use Rattle.laws_tables.{specs.{Drains.{Drains, is_same, only_on}, Ends.is_new}, proofs.{Changes.{changed, others_left}, Logs.{longer, none_on_any, not_on, same_connection}}}
 use Rattle.laws_tables.proofs.Logs.{shorter, there_on}
-use Rattle.laws_device.specs.Carried.Streamed.{AreCounted, AreLabelled, AreLines, AreShaken, AreShakenBut, AreStreamed, HasHand, HasLabel, IsJoined, IsLabelled, Ports}
+use Rattle.laws_device.specs.Carried.Streamed.{AreCounted, AreLabelled, AreLines, AreOlder, AreShaken, AreShakenBut, AreStreamed, HasLabel, IsJoined, IsLabelled, IsShaking, Ports}
 use Rattle.laws_device.specs.Carried.Streamed.{Seen, client_waits, connection_of, gives}
 use Rattle.laws_device.{specs.{Carried.Streamed.{line_for, reading, taken_of}, Named.Streams.stream_under}, proofs.Carried.{Lines.line_longer, Tabled.{stream_comes, stream_kept}}}
 use Rattle.laws_device.proofs.Carried.Tabled.{stream_now, stream_other, stream_stays}
@@ -29,6 +29,12 @@ not_none s c is none = let both : Some c ≡ None = sym is ∙ none in absurd cc
 -- One place or another.
 pub is_or_not : (i j : ℕ) (P : Type 0) → (i ≡ j → P) → (i ≢ j → P) → P
 is_or_not i j P here other = grind (arith, common_steps)
+
+-- Streams of clients that were accepted, or wait, were so before.
+pub older_back : (at now : ℕ → Option Seen) → ((j : ℕ) (u : Seen) → now j ≡ Some u → IsShaking u → (v : Seen) × (at j ≡ Some v) × IsShaking v)
+    → ((j : ℕ) (u : Seen) → now j ≡ Some u → u.waiting ≡ true → (v : Seen) × (at j ≡ Some v) × (v.waiting ≡ true)) → AreOlder at → AreOlder now
+older_back at now shaking waiting older i j s t a busy b waits =
+    let v = shaking i s a busy in let w = waiting j t b waits in older i j v.0 w.0 v.1 v.2 w.1 w.2
 
 -- A log goes on: no payload comes, no REQUEST does, and the streams are counted as before.
 pub record StaysStill (count : Flow → ℕ) (log new : Log) : Type 0 where
@@ -85,7 +91,10 @@ module _ (at now : ℕ → Option Seen) (labelled : List ℕ) (count : Flow → 
       waiting = λ id s there. x.streams.waiting id s (same id ∙ there);
       lines = same_lines lines x.streams.lines;
     };
-    shaken = λ fresh id s there. x.shaken fresh id s (same id ∙ there);
+    shaken = λ fresh. record {
+      hand = λ id s there. (x.shaken fresh).hand id s (same id ∙ there);
+      older = λ i j s u a busy b. (x.shaken fresh).older i j s u (same i ∙ a) busy (same j ∙ b);
+    };
   }
 
 -- The same counts.
@@ -235,6 +244,10 @@ module _ (at now : ℕ → Option Seen) (labelled : List ℕ) (count : Flow → 
     waits_at : (id : ℕ) (s : Seen) → now id ≡ Some s → s.waiting ≡ true → s ≡ client_waits
     waits_at id s seen waits = grind (arith, common_steps)
 
+    -- Its stream has a label.
+    not_it : (id : ℕ) (s : Seen) → now id ≡ Some s → s.label ≡ None → id ≢ e.value.stream
+    not_it id s seen none id_is = not_none (after c.closed) k join.label (ap (λ (y : Seen). y.label) (here id s seen id_is) ∙ none)
+
     moved_labels : AreLabelled now labelled count new port lines
     moved_labels = record {
       labels = labels_at;
@@ -268,9 +281,11 @@ module _ (at now : ℕ → Option Seen) (labelled : List ℕ) (count : Flow → 
           )) (λ apart.
           let old = x.tabled id s d (others id apart ∙ seen) label still in (old.0, stream_other t sound e is c old.0 id old.1 apart));
       streams = moved_labels;
-      shaken = λ fresh id s seen busy. is_or_not id e.value.stream (HasHand lines id)
-          (λ id_is. absurd (not_none (after c.closed) k join.label (ap (λ (y : Seen). y.label) (here id s seen id_is) ∙ busy.free)))
-          (λ apart. x.shaken fresh id s (others id apart ∙ seen) busy);
+      shaken = λ fresh. record {
+        hand = λ id s seen busy. (x.shaken fresh).hand id s (others id (not_it id s seen busy.free) ∙ seen) busy;
+        older = older_back at now (λ j u seen busy. (u, others j (not_it j u seen busy.free) ∙ seen, busy))
+            (λ j u seen waits. (u, others j (not_it j u seen (ap (λ (y : Seen). y.label) (waits_at j u seen waits))) ∙ seen, waits)) (x.shaken fresh).older;
+      };
     }
 
 -- Other flows are kept to be used again, fewer are served, or more or less is known of the host.
@@ -512,9 +527,15 @@ module _ (at now : ℕ → Option Seen) (labelled : List ℕ) (count more : Flow
 
   -- The others have their handshakes.
   pub opened_shaken : AreShakenBut id at lines → AreShaken now lines
-  opened_shaken shaken j u seen busy = is_or_not j id (HasHand lines j)
-      (λ place. absurd (not_none u k (ap (λ (y : Seen). y.label) (sym (it_is j u seen place)) ∙ label) busy.free))
-      (λ other. shaken j u (others j other ∙ seen) busy other)
+  opened_shaken shaken = record {
+    hand = λ j u seen busy. let other = not_it j u seen busy.free in shaken.hand j u (others j other ∙ seen) busy other;
+    older = older_back at now (λ j u seen busy. (u, others j (not_it j u seen busy.free) ∙ seen, busy))
+        (λ j u seen waits. (u, others j (λ place.
+        let both : false ≡ true = sym busy ∙ ap (λ (y : Seen). y.waiting) (it_is j u seen place) ∙ waits in absurd cc) ∙ seen, waits)) shaken.older;
+  }
+    where
+      not_it : (j : ℕ) (u : Seen) → now j ≡ Some u → u.label ≡ None → j ≢ id
+      not_it j u seen none place = not_none u k (ap (λ (y : Seen). y.label) (sym (it_is j u seen place)) ∙ label) none
 
   pub opened_streamed : IsTable t → c.stream ≡ id → c.closed ≡ false → IsLabelled s k more new next
       → IsJoined now more new (next_entry t k.flow c) → AreLines now lines → (next.fresh ≡ true → AreShakenBut id at lines)

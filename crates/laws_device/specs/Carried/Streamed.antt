@@ -168,7 +168,7 @@ pub record AreLines (at : ℕ → Option Seen) (lines : List Handshake) : Type 0
   pub apart : AllPairs (λ g h. g.stream ≢ h.stream) lines
 
 -- A client's stream that was accepted, has no label and isn't closed; and the handshake of a stream. Each such stream has one; or all but one do, while
--- the whole line of that one is acted upon.
+-- the whole line of that one is acted upon; and each is older than all that wait.
 pub record IsShaking (s : Seen) : Type 0 where
   pub client : s.by_client ≡ true
   pub accepted : s.waiting ≡ false
@@ -178,11 +178,17 @@ pub record IsShaking (s : Seen) : Type 0 where
 abbrev pub HasHand : List Handshake → ℕ → Type 0
 HasHand hands id = (h : Handshake) × Contains hands h × (h.stream ≡ id)
 
-abbrev pub AreShaken : (ℕ → Option Seen) → List Handshake → Type 0
-AreShaken at hands = (id : ℕ) (s : Seen) → at id ≡ Some s → IsShaking s → HasHand hands id
+-- Clients are accepted in their order.
+abbrev pub AreOlder : (ℕ → Option Seen) → Type 0
+AreOlder at = (i j : ℕ) (s t : Seen) → at i ≡ Some s → IsShaking s → at j ≡ Some t → t.waiting ≡ true → i < j
 
-abbrev pub AreShakenBut : ℕ → (ℕ → Option Seen) → List Handshake → Type 0
-AreShakenBut one at hands = (id : ℕ) (s : Seen) → at id ≡ Some s → IsShaking s → id ≢ one → HasHand hands id
+pub record AreShaken (at : ℕ → Option Seen) (hands : List Handshake) : Type 0 where
+  pub hand : (id : ℕ) (s : Seen) → at id ≡ Some s → IsShaking s → HasHand hands id
+  pub older : AreOlder at
+
+pub record AreShakenBut (one : ℕ) (at : ℕ → Option Seen) (hands : List Handshake) : Type 0 where
+  pub hand : (id : ℕ) (s : Seen) → at id ≡ Some s → IsShaking s → id ≢ one → HasHand hands id
+  pub older : AreOlder at
 
 -- How many streams have a flow as label, against the REQUESTs on it. On a flow whose port the proxy assigned no REQUEST is put without a
 -- stream, and the newest stream may lack one; where the flow is kept to be used again, each stream has one. On any other flow a REQUEST that is
