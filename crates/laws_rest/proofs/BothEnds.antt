@@ -1,6 +1,6 @@
 -- Bytes of both ends: what each put came first at the other, and the streams are of the same connections.
 use Rattle.laws_device.specs.{Carried.Streamed.{lasting, ports_of, Ports, IsStreamed}, Streams.AreStreamedWith}
-use Rattle.std.proofs.Common.{List, ap, subst, sym, true, ℕ, ◌∙◌, ◌≡◌, ◌≤◌}
+use Rattle.std.proofs.Common.{List, ap, false, subst, sym, ℕ, ◌∙◌, ◌≡◌, ◌≤◌}
 use Rattle.vs_flow.specs.{Connection.{Connection}, Flow.host_asks, Table.Table}
 use Rattle.laws_history.{specs.{declared.packet.Packet.Packet, History.{Side, gots, peer, puts}}}
 use Rattle.vs_outside.specs.{Host.HostContents, HostBytes.{host_read, host_wrote}}

@@ -18,7 +18,7 @@ use Rattle.vs_device_parts.specs.Receiving.{put_owed, put_packet, put_reply, put
 use Rattle.vs_device_parts.{specs.{Receiving.{serve_slot, written}, State.{DeviceConnection, DeviceEntry, DeviceState}, Steps.filling, Streams.closing}, proofs.Under.has_slot}
 use Rattle.laws_device.{specs.{Named.Waiting.filling_of, Honest.end_in}, proofs.Walk.Keeping.{Asking, Keeps, keeps_then, keeps_weaker}}
 use Rattle.laws_rest.proofs.{Owing.{listed, same_slots}, Quiet.in_list, Stages.in_round}
-use Rattle.laws_run.specs.Dry.{IsDry, IsDryAt, IsFull, IsFullAt, IsToldDry, IsToldFull, reads_of, reads_under, writes_of, writes_under}
+use Rattle.laws_run.specs.Dry.{IsDry, IsDryAt, IsFull, IsFullAt, IsTaken, IsTakenAt, IsToldDry, IsToldFull, IsToldTaken, reads_of, reads_under, writes_of, writes_under}
 use Rattle.vs_limits.specs.declared.TheConstants.{OWED_MAX}
 use Rattle.vs_outside.specs.declared.host_net.StreamRead.TheVariants as read
 use Rattle.vs_outside.specs.declared.host_net.StreamState.TheVariants as state
@@ -67,20 +67,40 @@ still r c on = record { rises = omega arith; same = λ e o. (on, record { table 
 same_then : (r : Filling) (c : Situation) (q : Filling) (d : Situation) (x : Filling) (e : Situation) → Same r c q d → Same q d x e → Same r c x e
 same_then r c q d x e a b = record { table = b.table ∙ a.table; host = b.host ∙ a.host }
 
+-- Streams that are dry stay so, and those that don't wait to be accepted.
+pub record Calm (o q : Option HostContents) : Type 0 where
+  pub dry : (id : ℕ) → IsToldDry id o → IsToldDry id q
+  pub taken : (id : ℕ) → IsToldTaken id o → IsToldTaken id q
+
+pub calm_same : (o q : Option HostContents) → q ≡ o → Calm o q
+calm_same o q same = record {
+  dry = λ id is. subst (λ (p : Option HostContents). IsToldDry id p) (sym same) is;
+  taken = λ id is. subst (λ (p : Option HostContents). IsToldTaken id p) (sym same) is;
+}
+
+pub calm_both : (o q p : Option HostContents) → Calm o q → Calm q p → Calm o p
+calm_both o q p a b = record { dry = λ id is. b.dry id (a.dry id is); taken = λ id is. b.taken id (a.taken id is) }
+
 -- What has something to write had it before, and streams that take nothing stay so.
 pub record KeepsFull (t : Table DeviceConnection) (o : Option HostContents) (u : Table DeviceConnection) (q : Option HostContents) : Type 0 where
   pub less : (n id : ℕ) → writes_under n u ≡ Some id → writes_under n t ≡ Some id
   pub full : (id : ℕ) → IsToldFull id o → IsToldFull id q
+  pub calm : Calm o q
 
 keeps_same : (t : Table DeviceConnection) (o : Option HostContents) (u : Table DeviceConnection) (q : Option HostContents) → u ≡ t → q ≡ o → KeepsFull t o u q
 keeps_same t o u q table host = record {
   less = λ n id at. ap (λ (v : Table DeviceConnection). writes_under n v) (sym table) ∙ at;
   full = λ id is. subst (λ (p : Option HostContents). IsToldFull id p) (sym host) is;
+  calm = calm_same o q host;
 }
 
 keeps_both : (t : Table DeviceConnection) (o : Option HostContents) (u : Table DeviceConnection) (q : Option HostContents) (v : Table DeviceConnection)
     (p : Option HostContents) → KeepsFull t o u q → KeepsFull u q v p → KeepsFull t o v p
-keeps_both t o u q v p a b = record { less = λ n id at. a.less n id (b.less n id at); full = λ id is. b.full id (a.full id is) }
+keeps_both t o u q v p a b = record {
+  less = λ n id at. a.less n id (b.less n id at);
+  full = λ id is. b.full id (a.full id is);
+  calm = calm_both o q p a.calm b.calm;
+}
 
 abbrev Frame : Relation
 Frame r c x d = KeepsFull r.state.table c.host x.state.table d.host
@@ -259,16 +279,17 @@ less_written t slot e v at less n id writes = by (n == slot) refl
 replaces : (slot : ℕ) (e : DeviceEntry) (v : DeviceConnection) (r : Filling) (c : Situation) (x : Filling) (d : Situation) → entry_under r.state.table slot ≡ Some e
     → reads_of (record e { value = v }) ≡ None → x.state.table ≡ with_value r.state.table slot v
     → ((id : ℕ) → writes_of (record e { value = v }) ≡ Some id → writes_of e ≡ Some id)
-    → ((id : ℕ) → IsToldDry id c.host → IsToldDry id d.host) → ((id : ℕ) → IsToldFull id c.host → IsToldFull id d.host) → Serves slot r c x d
-replaces slot e v r c x d at none table less dry full = record {
+    → Calm c.host d.host → ((id : ℕ) → IsToldFull id c.host → IsToldFull id d.host) → Serves slot r c x d
+replaces slot e v r c x d at none table less calm full = record {
   touches = record {
     frame = record {
       less = λ n id writes. less_written r.state.table slot e v at less n id (ap (λ (t : Table DeviceConnection). writes_under n t) (sym table) ∙ writes);
       full = full;
+      calm = calm;
     };
     slots = ap (λ (t : Table DeviceConnection). slots t) table ∙ same_slots end_in r.state.table slot v;
     others = λ n other. ap (λ (t : Table DeviceConnection). reads_under n t) table ∙ under_other reads_of r.state.table slot n v other;
-    dry = dry;
+    dry = calm.dry;
   };
   own = λ id reads. absurd (let no : None ≡ Some id = sym none ∙ sym (under_own reads_of r.state.table slot e v at) ∙ ap (λ (t : Table DeviceConnection). reads_under slot t) (sym table) ∙ reads in cc);
 }
@@ -280,7 +301,7 @@ still_none slot r c none = record {
 }
 
 -- What the answers leave of a host.
-abbrev IsQuiet : StreamRead → Type 0
+abbrev pub IsQuiet : StreamRead → Type 0
 IsQuiet (read.Got n) = ⊥
 IsQuiet a = Unit {0}
 
@@ -324,8 +345,32 @@ dry_read read.Again stream i h quiet dry = dry
 dry_read read.End stream i h quiet dry = dry
 dry_read read.Failed stream i h quiet dry = dry
 
+-- The same of streams that wait.
+taken_closed : (i id : ℕ) (h : HostContents) → IsTakenAt i h → IsTakenAt i (after_close id h)
+taken_closed i id h = stays_with IsTaken (λ s. record s { state = state.Closed }) (λ s is. refl) i id h
+
+taken_read : (a : StreamRead) (stream i : ℕ) (h : HostContents) → IsQuiet a → IsTakenAt i h → IsTakenAt i (after_read stream a h)
+taken_read (read.Got n) stream i h quiet taken = absurd quiet
+taken_read read.Again stream i h quiet taken = taken
+taken_read read.End stream i h quiet taken = taken
+taken_read read.Failed stream i h quiet taken = taken
+
+pub calm_moves : (failed : Bool) (P : HostContents → Type 0) (f : HostContents → HostContents) (c d : Situation) → HostMoves failed P f c d
+    → ((id : ℕ) (h : HostContents) → IsDryAt id h → IsDryAt id (f h)) → ((id : ℕ) (h : HostContents) → IsTakenAt id h → IsTakenAt id (f h)) → Calm c.host d.host
+calm_moves failed P f c d moves dry taken =
+    record { dry = host_moves IsDryAt failed P f c d moves dry; taken = host_moves IsTakenAt failed P f c d moves taken }
+
+pub calm_close : (stream : ℕ) (c d : Situation) → HostMoves false (λ h. Unit {0}) (after_close stream) c d → Calm c.host d.host
+calm_close stream c d moves = calm_moves false (λ h. Unit {0}) (after_close stream) c d moves (λ id h. dry_closed id stream h) (λ id h. taken_closed id stream h)
+
+pub calm_read : (a : StreamRead) (stream room : ℕ) (payload : List ℕ) (c d : Situation) → IsQuiet a → Allows (ReadStream stream room) (a, payload) c d
+    → Calm c.host d.host
+calm_read a stream room payload c d quiet made =
+    calm_moves (read_failed a) (IsReadOf stream room (a, payload)) (after_read stream a) c d made.0 (λ id h dry. dry_read a stream id h quiet dry)
+    (λ id h taken. taken_read a stream id h quiet taken)
+
 -- What Again says of a stream.
-told_again : (stream room : ℕ) (c d : Situation) (payload : List ℕ)
+pub told_again : (stream room : ℕ) (c d : Situation) (payload : List ℕ)
     → HostMoves false (IsReadOf stream room (read.Again, payload)) (after_read stream read.Again) c d → IsToldDry stream d.host
 told_again stream room c d payload moves = grind (arith, common_steps)
 
@@ -345,10 +390,8 @@ module _ (e : DeviceEntry) where
   Served = Serves e.slot
 
   read_stays : (a : StreamRead) (room : ℕ) (payload : List ℕ) (c d : Situation) → IsQuiet a
-      → Allows (ReadStream e.value.stream room) (a, payload) c d → (id : ℕ) → IsToldDry id c.host → IsToldDry id d.host
-  read_stays a room payload c d quiet made =
-      host_moves IsDryAt (read_failed a) (IsReadOf e.value.stream room (a, payload)) (after_read e.value.stream a) c d made.0
-      (λ id h dry. dry_read a e.value.stream id h quiet dry)
+      → Allows (ReadStream e.value.stream room) (a, payload) c d → Calm c.host d.host
+  read_stays a room payload c d quiet made = calm_read a e.value.stream room payload c d quiet made
 
   read_full : (a : StreamRead) (room : ℕ) (payload : List ℕ) (c d : Situation) → IsQuiet a
       → Allows (ReadStream e.value.stream room) (a, payload) c d → (id : ℕ) → IsToldFull id c.host → IsToldFull id d.host
@@ -387,9 +430,13 @@ module _ (e : DeviceEntry) where
       record {
         touches = record {
           slots = refl;
-          frame = record { less = λ n id writes. writes; full = read_full read.Again room payload c d tt made };
+          frame = record {
+            less = λ n id writes. writes;
+            full = read_full read.Again room payload c d tt made;
+            calm = read_stays read.Again room payload c d tt made;
+          };
           others = λ n other. refl;
-          dry = read_stays read.Again room payload c d tt made;
+          dry = (read_stays read.Again room payload c d tt made).dry;
         };
         own = λ id reads.
             subst (λ (i : ℕ). IsToldDry i d.host) (its_stream (may_read e.value.end e.value.end.state && not (free_of e.value.end.credit == 0)) id
@@ -414,14 +461,14 @@ module _ (e : DeviceEntry) where
   }
   answered chain read.Failed payload room q c d at made =
       keeps_then allowed (λ x f. Step Served q c x f)
-      (λ s f. (s ≡ cut) × ((id : ℕ) → IsToldDry id d.host → IsToldDry id f.host) × ((id : ℕ) → IsToldFull id d.host → IsToldFull id f.host))
+      (λ s f. (s ≡ cut) × Calm d.host f.host × ((id : ℕ) → IsToldFull id d.host → IsToldFull id f.host))
       (closing e cut_off (with_fault q.state)) (λ s. Done (record q { state = s })) d (closes e.value.closed)
       (λ s f is. record {
         rises = omega arith;
         same = λ put on. (
           on,
           replaces e.slot e (cut_off e.value) q c (record q { state = s }) f at refl (ap (λ (t : DeviceState). t.table) is.0)
-              (λ id writes. absurd cc) (λ id dry. is.1 id (read_stays read.Failed room payload c d tt made id dry))
+              (λ id writes. absurd cc) (calm_both c.host d.host f.host (read_stays read.Failed room payload c d tt made) is.1)
               (λ id full. is.2 id (read_full read.Failed room payload c d tt made id full)),
         );
       })
@@ -430,13 +477,13 @@ module _ (e : DeviceEntry) where
       cut = with_connection e.slot (cut_off e.value) (with_fault q.state)
 
       closes : (b : Bool) → Keeps allowed
-          (λ s f. (s ≡ cut) × ((id : ℕ) → IsToldDry id d.host → IsToldDry id f.host) × ((id : ℕ) → IsToldFull id d.host → IsToldFull id f.host)) (cond b
+          (λ s f. (s ≡ cut) × Calm d.host f.host × ((id : ℕ) → IsToldFull id d.host → IsToldFull id f.host)) (cond b
           (Done (with_connection e.slot (cut_off e.value) (with_fault q.state)))
           (Ask (CloseStream e.value.stream) (λ u. Done (with_connection e.slot (cut_off e.value) (with_fault q.state))))) d
-      closes true = (refl, λ id dry. dry, λ id full. full)
+      closes true = (refl, calm_same d.host d.host refl, λ id full. full)
       closes false = λ u f closed. (
         refl,
-        host_moves IsDryAt false (λ h. Unit {0}) (after_close e.value.stream) d f closed (λ id h dry. dry_closed id e.value.stream h dry),
+        calm_close e.value.stream d f closed,
         host_moves IsFullAt false (λ h. Unit {0}) (after_close e.value.stream) d f closed (λ id h full. full_closed id e.value.stream h full),
       )
 
@@ -478,7 +525,7 @@ module _ (e : DeviceEntry) where
           on,
           replaces e.slot e (record e.value { end = wanting_credit e.value.end }) r c _ c at
               (no_credit (may_read e.value.end e.value.end.state) (free_of e.value.end.credit == 0) free) refl (λ id writes. writes)
-              (λ id dry. dry) (λ id full. full),
+              (calm_same c.host c.host refl) (λ id full. full),
         );
       }
       by true may false free =

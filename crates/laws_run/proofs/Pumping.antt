@@ -14,7 +14,8 @@ use Rattle.vs_proxy_parts.specs.{State.ProxyState, Turns.turn_of, declared.answe
 use Rattle.laws_device.{specs.Honest.end_in, proofs.Walk.Keeping.{Keeps, keeps_then, keeps_weaker}}
 use Rattle.laws_rest.proofs.{Owing.{listed, same_slots}, Quiet.in_list}
 use Rattle.laws_settled.{specs.Settled.LacksPages, proofs.Quieting.{LastFill, fill_lacks, last_fill}}
-use Rattle.laws_run.{specs.Dry.{AreIdle, IsFull, IsFullAt, IsToldFull, writes_of, writes_under}, proofs.Drying.{allowed, full_closed, host_moves, keeps_run, or_true}}
+use Rattle.laws_run.specs.Dry.{AreIdle, IsDry, IsDryAt, IsFull, IsFullAt, IsTaken, IsTakenAt, IsToldFull, writes_of, writes_under}
+use Rattle.laws_run.proofs.Drying.{Calm, allowed, calm_both, calm_close, calm_moves, calm_same, full_closed, host_moves, keeps_run, or_true}
 use Rattle.laws_run.proofs.Drying.{stage_dry, stays_with, under_at, under_other, under_own}
 use Rattle.vs_outside.specs.declared.host_net.StreamWrite.TheVariants as write
 use Rattle.vs_proxy_parts.specs.declared.answers.Turn.TheVariants as turn
@@ -38,6 +39,7 @@ record Leaves (slot : ℕ) (w : Writing) (c : Situation) (x : Writing) (d : Situ
   slots : slots x.state.table ≡ slots w.state.table
   others : (n : ℕ) → (n == slot) ≡ false → writes_under n x.state.table ≡ writes_under n w.state.table
   full : (id : ℕ) → IsToldFull id c.host → IsToldFull id d.host
+  calm : Calm c.host d.host
 
 record Pumps (slot : ℕ) (w : Writing) (c : Situation) (x : Writing) (d : Situation) : Type 0 where
   leaves : Leaves slot w c x d
@@ -48,7 +50,7 @@ record Shuts (slot : ℕ) (w : Writing) (c : Situation) (x : Writing) (d : Situa
   less : (id : ℕ) → writes_under slot x.state.table ≡ Some id → writes_under slot w.state.table ≡ Some id
 
 no_change : (slot : ℕ) (w : Writing) (c : Situation) → Leaves slot w c w c
-no_change slot w c = record { slots = refl; others = λ n other. refl; full = λ id is. is }
+no_change slot w c = record { slots = refl; others = λ n other. refl; full = λ id is. is; calm = calm_same c.host c.host refl }
 
 leaves_then : (slot : ℕ) (w : Writing) (c : Situation) (v : Writing) (d : Situation) (x : Writing) (e : Situation) → Leaves slot w c v d → Leaves slot v d x e
     → Leaves slot w c x e
@@ -56,6 +58,7 @@ leaves_then slot w c v d x e a b = record {
   slots = b.slots ∙ a.slots;
   others = λ n other. b.others n other ∙ a.others n other;
   full = λ id is. b.full id (a.full id is);
+  calm = calm_both c.host d.host e.host a.calm b.calm;
 }
 
 pumps_then : (slot : ℕ) (w : Writing) (c : Situation) (v : Writing) (d : Situation) (x : Writing) (e : Situation) → Pumps slot w c v d → Shuts slot v d x e
@@ -64,11 +67,12 @@ pumps_then slot w c v d x e a b =
     record { leaves = leaves_then slot w c v d x e a.leaves b.leaves; own = λ id at. b.leaves.full id (a.own id (b.less id at)) }
 
 replaced : (slot : ℕ) (v : DeviceConnection) (w : Writing) (c : Situation) (x : Writing) (d : Situation) → x.state.table ≡ with_value w.state.table slot v
-    → ((id : ℕ) → IsToldFull id c.host → IsToldFull id d.host) → Leaves slot w c x d
-replaced slot v w c x d table full = record {
+    → ((id : ℕ) → IsToldFull id c.host → IsToldFull id d.host) → Calm c.host d.host → Leaves slot w c x d
+replaced slot v w c x d table full calm = record {
   slots = ap (λ (t : Table DeviceConnection). slots t) table ∙ same_slots end_in w.state.table slot v;
   others = λ n other. ap (λ (t : Table DeviceConnection). writes_under n t) table ∙ under_other writes_of w.state.table slot n v other;
   full = full;
+  calm = calm;
 }
 
 own_none : (slot : ℕ) (e : DeviceEntry) (v : DeviceConnection) (w x : Writing) (d : Situation) → entry_under w.state.table slot ≡ Some e
@@ -87,6 +91,12 @@ still_none slot w c none = record {
 untold : (o : Option HostContents) → o ≡ None → (id : ℕ) → IsToldFull id o
 untold o none id = λ h there. absurd (let no : ◌≡◌ {A = Option HostContents} None (Some h) = sym none ∙ there in cc)
 
+untold_calm : (o q : Option HostContents) → q ≡ None → Calm o q
+untold_calm o q none = record {
+  dry = λ id is h there. absurd (let no : ◌≡◌ {A = Option HostContents} None (Some h) = sym none ∙ there in cc);
+  taken = λ id is h there. absurd (let no : ◌≡◌ {A = Option HostContents} None (Some h) = sym none ∙ there in cc);
+}
+
 took_none : (stream n : ℕ) (bytes : List ℕ) (c d : Situation)
     → HostMoves false (IsWritten stream (length bytes) (write.Took n)) (after_write stream bytes (write.Took n)) c d → n ≡ 0 → d.host ≡ None
 took_none stream n bytes c d moves none = grind (arith, common_steps)
@@ -101,6 +111,20 @@ full_failed i h full = by (fails_now h)
     by : (b : Bool) → IsFullAt i (cond b (called h) (record (called h) { starved = true }))
     by true = full
     by false = full
+
+dry_failed : (i : ℕ) (h : HostContents) → IsDryAt i h → IsDryAt i (after_failed h)
+dry_failed i h dry = by (fails_now h)
+  where
+    by : (b : Bool) → IsDryAt i (cond b (called h) (record (called h) { starved = true }))
+    by true = dry
+    by false = dry
+
+taken_failed : (i : ℕ) (h : HostContents) → IsTakenAt i h → IsTakenAt i (after_failed h)
+taken_failed i h taken = by (fails_now h)
+  where
+    by : (b : Bool) → IsTakenAt i (cond b (called h) (record (called h) { starved = true }))
+    by true = taken
+    by false = taken
 
 and_none : (a : Bool) (stream : ℕ) → cond (a && false) (Some stream) None ≡ None
 and_none true stream = refl
@@ -129,7 +153,7 @@ module _ (e : DeviceEntry) where
     rises = omega arith;
     same = λ wrote.
         let none = took_none e.value.stream n (to_write e.value) c d made.0 (omega (arith, wrote)) in record {
-          leaves = replaced e.slot (after_written n e.value) w c _ d refl (λ id full. untold d.host none id);
+          leaves = replaced e.slot (after_written n e.value) w c _ d refl (λ id full. untold d.host none id) (untold_calm c.host d.host none);
           own = λ id writes. untold d.host none id;
         };
   }
@@ -141,6 +165,8 @@ module _ (e : DeviceEntry) where
         others = λ n other. refl;
         full = host_moves IsFullAt false (IsWritten e.value.stream (length (to_write e.value)) write.Again)
             (after_write e.value.stream (to_write e.value) write.Again) c d made.0 (λ id h full. full);
+        calm = calm_moves false (IsWritten e.value.stream (length (to_write e.value)) write.Again)
+            (after_write e.value.stream (to_write e.value) write.Again) c d made.0 (λ id h dry. dry) (λ id h taken. taken);
       };
       own = λ id writes.
           subst (λ (i : ℕ). IsToldFull i d.host) (its_stream (not e.value.closed && not (length (to_write e.value) == 0)) e.value.stream id
@@ -152,20 +178,24 @@ module _ (e : DeviceEntry) where
     same = λ wrote. record {
       leaves = replaced e.slot (after_shut 1 w.state.now e.value) w c _ d refl
           (host_moves IsFullAt false (IsWritten e.value.stream (length (to_write e.value)) write.Closed)
-          (after_write e.value.stream (to_write e.value) write.Closed) c d made.0 (λ id h full. full));
+          (after_write e.value.stream (to_write e.value) write.Closed) c d made.0 (λ id h full. full))
+          (calm_moves false (IsWritten e.value.stream (length (to_write e.value)) write.Closed)
+          (after_write e.value.stream (to_write e.value) write.Closed) c d made.0 (λ id h dry. dry) (λ id h taken. taken));
       own = own_none e.slot e (after_shut 1 w.state.now e.value) w
           (record w { state = with_connection e.slot (after_shut 1 w.state.now e.value) w.state }) d at refl (shut_none w.state.now);
     };
   }
   answered write.Failed w c d at some made =
-      keeps_then allowed (λ x f. Step (Pumps e.slot) w c x f) (λ s f. (s ≡ cut) × ((id : ℕ) → IsToldFull id d.host → IsToldFull id f.host))
+      keeps_then allowed (λ x f. Step (Pumps e.slot) w c x f) (λ s f. (s ≡ cut) × ((id : ℕ) → IsToldFull id d.host → IsToldFull id f.host) × Calm d.host f.host)
       (closing e cut_off (with_fault w.state)) (λ s. Done (record w { state = s })) d (closes e.value.closed)
       (λ s f is. record {
         rises = omega arith;
         same = λ wrote. record {
           leaves = replaced e.slot (cut_off e.value) w c (record w { state = s }) f (ap (λ (t : DeviceState). t.table) is.0)
               (λ id full. is.1 id (host_moves IsFullAt true (IsWritten e.value.stream (length (to_write e.value)) write.Failed)
-              (after_write e.value.stream (to_write e.value) write.Failed) c d made.0 full_failed id full));
+              (after_write e.value.stream (to_write e.value) write.Failed) c d made.0 full_failed id full))
+              (calm_both c.host d.host f.host (calm_moves true (IsWritten e.value.stream (length (to_write e.value)) write.Failed)
+              (after_write e.value.stream (to_write e.value) write.Failed) c d made.0 dry_failed taken_failed) is.2);
           own = own_none e.slot e (cut_off e.value) w (record w { state = s }) f at (ap (λ (t : DeviceState). t.table) is.0) refl;
         };
       })
@@ -173,11 +203,15 @@ module _ (e : DeviceEntry) where
       cut : DeviceState
       cut = with_connection e.slot (cut_off e.value) (with_fault w.state)
 
-      closes : (b : Bool) → Keeps allowed (λ s f. (s ≡ cut) × ((id : ℕ) → IsToldFull id d.host → IsToldFull id f.host)) (cond b
+      closes : (b : Bool) → Keeps allowed (λ s f. (s ≡ cut) × ((id : ℕ) → IsToldFull id d.host → IsToldFull id f.host) × Calm d.host f.host) (cond b
           (Done (with_connection e.slot (cut_off e.value) (with_fault w.state)))
           (Ask (CloseStream e.value.stream) (λ u. Done (with_connection e.slot (cut_off e.value) (with_fault w.state))))) d
-      closes true = (refl, λ id full. full)
-      closes false = λ u f closed. (refl, host_moves IsFullAt false (λ h. Unit {0}) (after_close e.value.stream) d f closed (λ id h full. full_closed id e.value.stream h full))
+      closes true = (refl, λ id full. full, calm_same d.host d.host refl)
+      closes false = λ u f closed. (
+        refl,
+        host_moves IsFullAt false (λ h. Unit {0}) (after_close e.value.stream) d f closed (λ id h full. full_closed id e.value.stream h full),
+        calm_close e.value.stream d f closed,
+      )
 
   writes : (w : Writing) (c : Situation) → entry_under w.state.table e.slot ≡ Some e → Keeps allowed (λ x d. Step (Pumps e.slot) w c x d) (write_pending e w) c
   writes w c at = by (length (to_write e.value) == 0) refl
@@ -189,6 +223,11 @@ module _ (e : DeviceEntry) where
 
 full_shut : (stream i : ℕ) (h : HostContents) → IsFullAt i h → IsFullAt i (after_shut_write stream h)
 full_shut stream i h full = stays_with IsFull (λ s. record s { write_shut = true }) (λ s is. is) i stream (with_shut_write_call h) full
+
+calm_shut : (stream : ℕ) (c d : Situation) → HostMoves false (λ h. Unit {0}) (after_shut_write stream) c d → Calm c.host d.host
+calm_shut stream c d moves = calm_moves false (λ h. Unit {0}) (after_shut_write stream) c d moves
+    (λ id h. stays_with IsDry (λ s. record s { write_shut = true }) (λ s is. record { untaken = is.untaken; goes_on = is.goes_on }) id stream (with_shut_write_call h))
+    (λ id h. stays_with IsTaken (λ s. record s { write_shut = true }) (λ s is. is) id stream (with_shut_write_call h))
 
 shuts : (slot : ℕ) (w : Writing) (c : Situation) → Keeps allowed (λ x d. Step (Shuts slot) w c x d) (shut_write slot w) c
 shuts slot w c = by (entry_under w.state.table slot) refl
@@ -203,7 +242,8 @@ shuts slot w c = by (entry_under w.state.table slot) refl
       rises = omega arith;
       same = λ wrote. record {
         leaves = replaced slot (record e.value { write_shut = true }) w c _ d refl
-            (host_moves IsFullAt false (λ h. Unit {0}) (after_shut_write e.value.stream) c d made (λ id h full. full_shut e.value.stream id h full));
+            (host_moves IsFullAt false (λ h. Unit {0}) (after_shut_write e.value.stream) c d made (λ id h full. full_shut e.value.stream id h full))
+            (calm_shut e.value.stream c d made);
         less = λ id writes. under_at writes_of w.state.table slot (Some e) at
             ∙ (sym (under_own writes_of w.state.table slot e (record e.value { write_shut = true }) at) ∙ writes);
       };
@@ -245,6 +285,7 @@ record PumpsAll (is : List ℕ) (w : Writing) (c : Situation) (x : Writing) (d :
   slots : slots x.state.table ≡ slots w.state.table
   all : (n : ℕ) → in_list n is ≡ true → OwnFull n x d
   keeps : (n : ℕ) → OwnFull n w c → OwnFull n x d
+  calm : Calm c.host d.host
 
 pump_keeps : (slot n : ℕ) (w : Writing) (c : Situation) (x : Writing) (d : Situation) (b : Bool) → (n == slot) ≡ b → Pumps slot w c x d → OwnFull n w c → OwnFull n x d
 pump_keeps slot n w c x d true is s own = subst (λ (m : ℕ). OwnFull m x d) (sym (eqb-true n slot is)) s.own
@@ -256,6 +297,7 @@ pumps_more slot is w c v d x f s rest = record {
   slots = rest.slots ∙ s.leaves.slots;
   all = λ n at. by n (n == slot) refl at;
   keeps = λ n own. rest.keeps n (pump_keeps slot n w c v d (n == slot) refl s own);
+  calm = calm_both c.host d.host f.host s.leaves.calm rest.calm;
 }
   where
     by : (n : ℕ) (b : Bool) → (n == slot) ≡ b → (b || in_list n is) ≡ true → OwnFull n x f
@@ -263,7 +305,7 @@ pumps_more slot is w c v d x f s rest = record {
     by n false other at = rest.all n at
 
 pumps_each : (is : List ℕ) (w : Writing) (c : Situation) → Keeps allowed (λ x d. Step (PumpsAll is) w c x d) (for_each pump_slot is w) c
-pumps_each [] w c = record { rises = omega arith; same = λ wrote. record { slots = refl; all = λ n at. absurd cc; keeps = λ n own. own } }
+pumps_each [] w c = record { rises = omega arith; same = λ wrote. record { slots = refl; all = λ n at. absurd cc; keeps = λ n own. own; calm = calm_same c.host c.host refl } }
 pumps_each (slot ∷ is) w c =
     keeps_then allowed (λ x d. Step (PumpsAll (slot ∷ is)) w c x d) (λ v d. Step (Pumps slot) w c v d) (pump_slot slot w) (for_each pump_slot is) c (pumps slot w c)
     (λ v d step. keeps_weaker allowed (λ x f. Step (PumpsAll is) v d x f) (λ x f. Step (PumpsAll (slot ∷ is)) w c x f)
@@ -276,6 +318,11 @@ listed_writes n t id at = by (entry_under t n) refl
     by : (o : Option DeviceEntry) → entry_under t n ≡ o → in_list n (slots t) ≡ true
     by None none = absurd (let no : None ≡ Some id = sym (under_at writes_of t n None none) ∙ at in cc)
     by (Some e) there = listed end_in t n e.value.end (ap (option_map (λ (x : DeviceEntry). x.value.end)) there)
+
+pub stage_calm : (s : DeviceState) (c d : Situation) (w : Writing) → Runs (pump_of s) c w d → w.wrote ≡ 0 → Calm c.host d.host
+stage_calm s c d w runs none =
+    let first : Writing = record { state = s; wrote = 0 } in
+    ((keeps_run (λ x f. Step (PumpsAll (slots s.table)) first c x f) (pump_of s) c d w (pumps_each (slots s.table) first c) runs).same none).calm
 
 pub stage_full : (s : DeviceState) (c d : Situation) (w : Writing) → Runs (pump_of s) c w d → w.wrote ≡ 0
     → (n id : ℕ) → writes_under n w.state.table ≡ Some id → IsToldFull id d.host

@@ -3,7 +3,7 @@ use Rattle.std.specs.{Option.{ForSome, option_map_or}, Prelude.{◌≡◌, ℕ, 
 use Rattle.vs_credit.specs.Credit.{free_of}
 use Rattle.vs_flow.specs.{Connection.Connection, Table.Table, Table.entry_under}
 use Rattle.laws_device.specs.Streams.{is_open_in}
-use Rattle.vs_outside.specs.{Host.{HostContents, Stream, stream_at}, HostBytes.stream_of}
+use Rattle.vs_outside.specs.{Host.{HostContents, Stream, is_waiting, stream_at}, HostBytes.stream_of}
 use Rattle.vs_device_parts.specs.{Receiving.may_read, State.DeviceConnection, State.DeviceEntry, Streams.to_write}
 
 -- A connection has a stream that the proxy hasn't closed; and what is so of that one.
@@ -23,6 +23,16 @@ IsDryAt id h = ForSome (stream_at id h) IsDry
 
 abbrev pub IsToldDry : ℕ → Option HostContents → Type 0
 IsToldDry id host = ForSome host (IsDryAt id)
+
+-- It doesn't wait to be accepted.
+abbrev pub IsTaken : Stream → Type 0
+IsTaken s = is_waiting s ≡ false
+
+abbrev pub IsTakenAt : ℕ → HostContents → Type 0
+IsTakenAt id h = ForSome (stream_at id h) IsTaken
+
+abbrev pub IsToldTaken : ℕ → Option HostContents → Type 0
+IsToldTaken id host = ForSome host (IsTakenAt id)
 
 -- The stream that the connection under a slot reads: where it may read, and has credit.
 abbrev pub reads_of : DeviceEntry → Option ℕ

@@ -1,5 +1,5 @@
 -- A turn, with the flows and packets of the device.
-use Rattle.std.proofs.Common.{true, ◌≡◌, ℕ, List, [], sym, subst}
+use Rattle.std.proofs.Common.{true, false, ◌≡◌, ℕ, List, [], sym, subst}
 use Rattle.vs_ring_port.specs.Chains.{Held}
 use Rattle.vs_device_parts.specs.{Calls.Situation, Playing.Runs}
 use Rattle.laws_device.proofs.{Chains.{Among, alone_so}, Keeping.keeps_end, Seats.Carried}
