@@ -1,16 +1,15 @@
 -- Clients without a label at rest: what is read of each that was accepted is one of the lines; and the oldest of all was accepted.
-use Rattle.std.proofs.lemmas.Grind.{common_steps}
 use Rattle.std.proofs.Common.{◌≡◌, ◌<◌, ◌+◌, ◌-◌, ◌==◌, ◌&&◌, not, ℕ, zero, suc, Bool, true, false, cond, List, [], ◌∷◌, length, get_or, slice_get, Option, Some, None, refl, sym, ap, subst, ◌∙◌, arith}
-use Rattle.std.proofs.lemmas.{Bool.Decides.nat_tests, List.{Folds.find_at, Sums.fails_before_first}, Option.{get_or_from_slice_get, same_Some, slice_get_within}}
+use Rattle.std.proofs.lemmas.{Bool.Decides.nat_tests, List.{Folds.find_at, Sums.fails_before_first}, Option.{get_or_from_slice_get}}
 use Rattle.std.specs.{List.{All, find, position_or_len}, Option.{ForSome, is_none, option_map}}
-use Rattle.vs_flow.specs.{Connection.Connection, Table.Table, declared.flow.Flow.Flow}
+use Rattle.vs_flow.specs.{Table.Table, declared.flow.Flow.Flow}
 use Rattle.vs_limits.specs.declared.TheConstants.{HANDSHAKES}
-use Rattle.vs_outside.specs.{Host.{HostContents, Stream, is_waiting, stream_at, waits}, HostProgram.{closes, is_closed}, declared.host_net.StreamState.StreamState}
+use Rattle.vs_outside.specs.{Host.{HostContents, Stream, is_waiting, stream_at}, HostProgram.{is_closed}}
 use Rattle.vs_flow.proofs.Entries.{found_passes}
 use Rattle.vs_page.specs.Log.{Log}
 use Rattle.vs_device_parts.specs.State.{DeviceConnection}
 use Rattle.vs_proxy_parts.specs.State.{Handshake, ProxyState}
-use Rattle.laws_device.specs.Carried.Streamed.{HasHand, IsShaking, IsStreamed, Ports, Seen, connection_in, look, reading, seen}
+use Rattle.laws_device.specs.Carried.Streamed.{IsShaking, IsStreamed, Ports, Seen, connection_in, look, reading, seen}
 use Rattle.laws_device.proofs.Carried.Hosts.{none_labelled, there}
 use Rattle.vs_limits.specs.declared.TheConstants.{FIRST_CID}
 use Rattle.vs_ring_shared.specs.Sights.{DeviceSight, Sight, device_contents}

@@ -1,7 +1,6 @@
 -- A turn that did nothing read each line, and each gave Again; and no client waited, where a place was free and no fault was counted.
-use Rattle.std.proofs.lemmas.Grind.{common_steps}
-use Rattle.std.proofs.Common.{◌≡◌, ◌≤◌, ◌<◌, ◌+◌, ◌⊎◌, inl, inr, ℕ, Bool, true, false, List, [], ◌∷◌, length, get_or, Contains, Option, Some, None, refl, sym, ap, subst, ◌∙◌, arith}
-use Rattle.std.{proofs.lemmas.List.Elements.Contains-get_or, specs.Option.ForSome}
+use Rattle.std.proofs.Common.{◌≡◌, ◌<◌, ◌⊎◌, inl, inr, ℕ, Bool, true, false, List, [], ◌∷◌, length, get_or, Option, Some, None, refl, sym, ap, subst, ◌∙◌, arith}
+use Rattle.std.{proofs.lemmas.List.Elements.Contains-get_or}
 use Rattle.vs_header.specs.declared.Header.{Header}
 use Rattle.vs_outside.specs.Host.{HostContents, accept_failed, read_failed, write_failed}
 use Rattle.vs_ring_port.specs.declared.{device_ring.{Chain.Chain, Next.Next}}

@@ -1,20 +1,20 @@
 -- A stage of handshakes that did nothing read each line, and each gave Again; and it accepted none, since none waited or all places are taken.
 use Rattle.std.proofs.lemmas.Grind.{common_steps}
-use Rattle.std.proofs.Common.{◌≡◌, ◌≤◌, ◌<◌, ◌+◌, ◌-◌, ◌^◌, ◌==◌, min, nat_lt, ◌⊎◌, inl, inr, ℕ, zero, suc, Bool, true, false, cond, List, [], ◌∷◌, ◌++◌, length, map, take, get_or, slice_get, Contains, Option}
-use Rattle.std.{proofs.{Common.{Some, None, Result, Ok, Err, refl, sym, ap, subst, ◌∙◌, arith, option_and_then, position}, lemmas.{Bool.{eq-eqb, Decides.nat_tests}, Option.{get_or_from_slice_get, same_Some, slice_get_within}}}}
-use Rattle.std.specs.{List.{All, find}, Option.{ForSome, option_map, option_map_or}}
+use Rattle.std.proofs.Common.{◌≡◌, ◌≤◌, ◌<◌, ◌+◌, ◌-◌, ◌^◌, ◌==◌, min, nat_lt, ◌⊎◌, inl, inr, ℕ, zero, suc, Bool, true, false, cond, List, [], ◌∷◌, ◌++◌, length, map, take, slice_get, Contains, Option}
+use Rattle.std.{proofs.{Common.{Some, None, Ok, Err, refl, sym, ap, subst, ◌∙◌, arith, option_and_then, position}, lemmas.{Bool.{eq-eqb, Decides.nat_tests}, Option.{get_or_from_slice_get, same_Some, slice_get_within}}}}
+use Rattle.std.specs.{List.{All, find}, Option.{option_map, option_map_or}}
 use Rattle.vs_contents.specs.{CallTree.{Ask, Done, bind, for_each, while_up_to}, Contents.Exposes}
-use Rattle.vs_flow.{specs.{Table.refusal, declared.{flow.Flow.Flow, table.TableFault.TableFault}}, proofs.Entries.{find_position, none_found}}
+use Rattle.vs_flow.{specs.{Table.refusal, declared.{flow.Flow.Flow}}, proofs.Entries.{find_position, none_found}}
 use Rattle.vs_limits.specs.declared.TheConstants.{HANDSHAKES}
 use Rattle.vs_outside.specs.{Host.{HostContents, Stream, accept_answer, after_accept, after_close, after_label, after_read, called, fails_now, is_waiting, next_bytes, stream_at}}
 use Rattle.vs_outside.specs.declared.host_net.{Accepted.Accepted, StreamRead.StreamRead}
-use Rattle.vs_uds.specs.{ConnectLine.connect_step, declared.{connect.TheConstants.CONNECT_MAX, scan.Step.Step as LineStep}}
-use Rattle.vs_device_parts.specs.{Calls.{Accept, Allows, CloseStream, DeviceTree, HostMoves, IsReadOf, Label, ReadStream, Situation}, Connections.with_client, Playing.Runs, State.DeviceState}
+use Rattle.vs_uds.specs.{ConnectLine.connect_step, declared.{scan.Step.Step as LineStep}}
+use Rattle.vs_device_parts.specs.{Calls.{Accept, Allows, DeviceTree, HostMoves, IsReadOf, Label, ReadStream, Situation}, Connections.with_client, Playing.Runs}
 use Rattle.vs_device_parts.specs.Turns.{open_of}
 use Rattle.vs_proxy_parts.specs.Handshakes.{accept_answered, accept_one, byte_read, dropping, handshake_on, host_fault, line_decided, next_flow, opening, read_byte, read_line, shake_hands, streams_of, with_line}
 use Rattle.vs_proxy_parts.specs.State.{Handshake, Turning}
 use Rattle.laws_device.{specs.Carried.Streamed.HasHand, proofs.{Carried.Opens.one_byte, Walk.Keeping.{Keeps, keeps_if, keeps_some, keeps_then, keeps_weaker}}}
-use Rattle.laws_run.{specs.Dry.{IsTaken, IsTakenAt, IsToldDry, IsToldTaken}, proofs.Drying.{Calm, allowed, calm_both, calm_read, calm_same, keeps_run, told_again}}
+use Rattle.laws_run.{specs.Dry.{IsTakenAt, IsToldDry, IsToldTaken}, proofs.Drying.{Calm, allowed, calm_both, calm_read, calm_same, keeps_run, told_again}}
 use Rattle.vs_outside.specs.declared.host_net.Accepted.TheVariants as accepted
 use Rattle.vs_outside.specs.declared.host_net.StreamRead.TheVariants as read
 use Rattle.vs_uds.specs.declared.scan.Step.TheVariants as step
