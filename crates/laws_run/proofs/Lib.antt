@@ -18,3 +18,6 @@ pub mod Labels
 pub mod Completing
 pub mod Lines
 pub mod Holding
+pub mod Shaking
+pub mod Reading
+pub mod Clients

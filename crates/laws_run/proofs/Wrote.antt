@@ -1,5 +1,5 @@
 -- What of both ends' bytes holds at rest: all payload arrived, and the host's streams took and gave it.
-use Rattle.std.proofs.Common.{◌≡◌, ℕ, ◌≤◌, true, false, List, [], ◌∷◌, Some, refl, sym, ap, ◌∙◌}
+use Rattle.std.proofs.Common.{◌≡◌, ℕ, ◌≤◌, true, false, Bool, List, [], ◌∷◌, Some, refl, sym, ap, ◌∙◌}
 use Rattle.vs_flow.specs.{Connection.Connection, Flow.host_asks, declared.flow.Flow.Flow}
 use Rattle.vs_limits.specs.declared.TheConstants.{FIRST_CID}
 use Rattle.laws_history.specs.{Again.count, Packets.is_request, declared.packet.Packet.Packet, History.{Answerer, Asker, Side, gots, peer, puts}}
@@ -13,7 +13,7 @@ use Rattle.vs_ring_shared.specs.Sights.{DeviceSight, Sight, device_contents, dev
 use Rattle.vs_proxy_parts.specs.State.{ProxyState}
 use Rattle.laws_device.specs.{Streams.AreHeard, Carried.Streamed.{IsStreamed, lasting, ports_of}}
 use Rattle.laws_rest.proofs.{Standing.{AreKept, device_kept}, Hosts.wrote_is_put}
-use Rattle.laws_proxy.specs.Honest.{IsProxyStreamed}
+use Rattle.laws_proxy.specs.Honest.{IsProxyStreamed, IsProxyStreamedSince}
 use Rattle.laws_settled.specs.Settled.{IsSettled}
 
 -- Where an end got all that the other put, both have the same payload, and the same number of connections.
@@ -65,9 +65,14 @@ module _ (d : DriverState) (driver : Sight) (p : ProxyState) (device : DeviceSig
   heard = all_heard FIRST_CID device.sight.log (λ f. device_kept FIRST_CID f driver.log device.sight.log (settled.at_rest.no_reset Driver)
       (settled.at_rest.no_reset Device) settled.at_rest.routed to_device)
 
+  -- What is known of a host since the run began, or nothing.
+  pub streamed_since : (fresh : Bool) (h : HostContents) (faults : ℕ) → IsProxyStreamedSince fresh FIRST_CID p (situation (device_contents device) (Some h) faults)
+      → IsStreamed h device.sight.log (ports_of (lasting fresh) p.next_port p.device) p.device.table p.handshakes
+  streamed_since fresh h faults streams = streams refl (device_log device) refl heard h refl
+
   module _ (h : HostContents) (faults : ℕ) (streams : IsProxyStreamed FIRST_CID p (situation (device_contents device) (Some h) faults)) where
     pub streamed : IsStreamed h device.sight.log (ports_of (lasting false) p.next_port p.device) p.device.table p.handshakes
-    streamed = streams refl (device_log device) refl heard h refl
+    streamed = streamed_since false h faults streams
 
     pub wrote_there : (c : Connection) → 1 ≤ c.number → payload_got Driver c driver.log ≡ host_wrote c h
     wrote_there c some =

@@ -1,9 +1,11 @@
 -- Streams of the host that are at rest: from which nothing is to be taken now, though more may come; and which take nothing now. By connections.
-use Rattle.std.specs.{Option.{ForSome, option_map_or}, Prelude.{◌≡◌, ℕ, ◌==◌, ◌&&◌, not, Bool, true, false, if◌then◌else◌, [], length, Option, Some, None}}
+use Rattle.std.specs.{List.All, Option.{ForSome, is_none, option_map_or}, Prelude.{◌≡◌, ◌<◌, ℕ, ◌==◌, ◌&&◌, not, Bool, true, false, if◌then◌else◌, [], length, find, Option, Some, None}}
+use Rattle.vs_limits.specs.declared.TheConstants.{HANDSHAKES}
 use Rattle.vs_credit.specs.Credit.{free_of}
 use Rattle.vs_flow.specs.{Connection.Connection, Table.Table, Table.entry_under}
 use Rattle.laws_device.specs.Streams.{is_open_in}
-use Rattle.vs_outside.specs.{Host.{HostContents, Stream, is_waiting, stream_at}, HostBytes.stream_of}
+use Rattle.vs_outside.specs.{Host.{HostContents, Stream, is_waiting, stream_at}, HostBytes.stream_of, HostProgram.is_closed}
+use Rattle.vs_proxy_parts.specs.State.{ProxyState}
 use Rattle.vs_device_parts.specs.{Receiving.may_read, State.DeviceConnection, State.DeviceEntry, Streams.to_write}
 
 -- A connection has a stream that the proxy hasn't closed; and what is so of that one.
@@ -62,3 +64,17 @@ writes_under slot t = elim (entry_under t slot) [ None ↦ None | Some e ↦ wri
 abbrev pub AreIdle : Table DeviceConnection → Option HostContents → Type 0
 AreIdle t host =
     ((slot id : ℕ) → reads_under slot t ≡ Some id → IsToldDry id host) × ((slot id : ℕ) → writes_under slot t ≡ Some id → IsToldFull id host)
+
+-- Each line that is being read is dry; and no client waits, where a place is free and no fault was counted.
+pub record AreLinesIdle (p : ProxyState) (host : Option HostContents) : Type 0 where
+  pub read : All (λ h. IsToldDry h.stream host) p.handshakes
+  pub waits : length p.handshakes < HANDSHAKES → p.device.faults ≡ 0 → (id : ℕ) → IsToldTaken id host
+
+-- A client's stream that has no label and that the proxy hasn't closed. A read of each that was accepted gives Again; and, where no fault was counted, so does
+-- one of the oldest, accepted or not.
+abbrev pub is_free : Stream → Bool
+is_free s = s.by_client && (is_none s.label && not (is_closed s))
+
+pub record AreClientsDry (faults : ℕ) (h : HostContents) : Type 0 where
+  pub accepted : All (λ s. is_free s ≡ true → is_waiting s ≡ false → IsDry s) h.streams
+  pub oldest : faults ≡ 0 → ForSome (find is_free h.streams) IsDry

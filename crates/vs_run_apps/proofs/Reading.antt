@@ -10,7 +10,7 @@ use Rattle.vs_proxy_parts.specs.declared.answers.Turn.TheVariants as turn
 use Rattle.vs_apps_parts.specs.Scripts.{RunScript}
 use Rattle.vs_apps.specs.Guests.{GuestsState}
 use Rattle.laws_settled.{specs.Settled.IsSettled, specs.Settled.LacksPages, proofs.Quieting.turn_sound, proofs.Steady.told_runs, proofs.Taking.poll_takes_none}
-use Rattle.laws_run.{specs.Dry.AreIdle, proofs.Pumping.turn_idle, proofs.Still.took_none}
+use Rattle.laws_run.{specs.Dry.{AreIdle, AreLinesIdle}, proofs.Pumping.turn_idle, proofs.Reading.turn_lines, proofs.Still.took_none}
 use Rattle.vs_settle.specs.Rounds.{LastRound, no_turn}
 use Rattle.vs_run_apps.specs.Sides.{SideState}
 
@@ -48,5 +48,13 @@ module _ (script : RunScript) (g : GuestsState) (s : SideState) (last : LastRoun
       (situation (device_contents last.over) s.contents s.faults) (s.proxy, turn.Turned no_turn) no_turn last.turn refl refl refl)
     where
       by : AreIdle s.proxy.device.table s.contents ⊎ LacksPages s.proxy.device (device_contents last.over) → AreIdle s.proxy.device.table s.contents
+      by (inl idle) = idle
+      by (inr lacks) = absurd (none_lacks lacks)
+
+  pub lines_idle : AreLinesIdle s.proxy s.contents
+  lines_idle = by (turn_lines last.before.sight.size last.now last.was (situation (device_contents last.before) last.host_was last.faults_were)
+      (situation (device_contents last.over) s.contents s.faults) (s.proxy, turn.Turned no_turn) no_turn last.turn refl refl refl refl refl)
+    where
+      by : AreLinesIdle s.proxy s.contents ⊎ LacksPages s.proxy.device (device_contents last.over) → AreLinesIdle s.proxy s.contents
       by (inl idle) = idle
       by (inr lacks) = absurd (none_lacks lacks)

@@ -9,9 +9,9 @@ use Rattle.vs_ring_shared.specs.{Countings.met_between, Meetings.after_hearing, 
 use Rattle.vs_apps_parts.specs.Scripts.{RunScript}
 use Rattle.laws_apps.specs.{Ports.ArePortsFrom, Runs.{IsRunOf, Run}}
 use Rattle.laws_proxy.specs.Honest.{IsProxyStreamed}
-use Rattle.laws_settled.{specs.{Begun.{CountsFailed, IsBegun, IsUnlabelled, Start, start_with}, Settled.{IsSettled, IsSteady}}, proofs.Beginning.{dropped_none, new_begun}}
+use Rattle.laws_settled.{specs.{Begun.{AreUnaccepted, CountsFailed, IsBegun, IsUnlabelled, Start, start_with}, Settled.{IsSettled, IsSteady}}, proofs.Beginning.{dropped_none, new_begun}}
 use Rattle.laws_settled.proofs.Steady.{new_steady}
-use Rattle.laws_run.{specs.{Complete.IsCompleteRun, Dry.AreIdle}, proofs.Holding.complete_report}
+use Rattle.laws_run.{specs.{Complete.IsCompleteRun, Dry.{AreIdle, AreLinesIdle}}, proofs.{Clients.clients_dry, Holding.complete_report}}
 use Rattle.vs_apps.specs.Guests.{GuestsState, run_in}
 use Rattle.vs_settle.specs.Rounds.{LastRound}
 use Rattle.vs_report.specs.declared.giving.GiveError.{GiveError}
@@ -35,8 +35,9 @@ module _ (script : RunScript) (start : Start) (g : GuestsState) (s : SideState) 
     same_entries = ap (λ (x : GuestsState). x.entries) last.ends ∙ ap (λ (r : Run). r.entries) same_run
 
   pub right_of : IsRunOf FIRST_CID script (run_in g) → IsSettled g.driver g.end s.proxy s.ring → LastRound script g s.proxy s.ring s.contents s.faults
-      → AreIdle s.proxy.device.table s.contents → IsSteady s.proxy (around s) → IsBegun start s.proxy (around s) → HasRightReport script start g s
-  right_of run rest last idle steady begun unlabelled h there =
+      → AreIdle s.proxy.device.table s.contents → AreLinesIdle s.proxy s.contents → IsSteady s.proxy (around s) → IsBegun start s.proxy (around s)
+      → HasRightReport script start g s
+  right_of run rest last idle lines steady begun unlabelled h there =
       let now = subst (λ (o : Option HostContents). IsSteady s.proxy (situation (device_contents s.ring) o s.faults)) there steady in
       let streams : IsProxyStreamed FIRST_CID s.proxy (situation (device_contents s.ring) (Some h) s.faults) =
       λ honest l is plain k shown. begun.streamed unlabelled honest l is plain k (there ∙ shown) in
@@ -50,21 +51,25 @@ module _ (script : RunScript) (start : Start) (g : GuestsState) (s : SideState) 
         subst (λ (path : List ℕ). IsCompleteRun script g.apps g.entries g.bytes (totals_of g s.proxy) path told.0 h) begun.based
             (told.2 (totals_of g s.proxy) refl refl refl),
         told.3,
+        λ unaccepted. clients_dry g.driver g.end s.proxy s.ring h s.faults rest
+            (λ honest l is plain k shown. begun.shaken unlabelled unaccepted honest l is plain k (there ∙ shown))
+            (subst (λ (o : Option HostContents). AreLinesIdle s.proxy o) there lines),
       )
 
   pub has_run : (first : ℕ) (met : Met) → IsRunOf FIRST_CID script (run_in g) → ArePortsFrom first g.entries → IsSettled g.driver g.end s.proxy s.ring
-      → LastRound script g s.proxy s.ring s.contents s.faults → AreIdle s.proxy.device.table s.contents → met ≡ met_between g.end.log s.ring.sight.log
+      → LastRound script g s.proxy s.ring s.contents s.faults → AreIdle s.proxy.device.table s.contents → AreLinesIdle s.proxy s.contents → met ≡ met_between g.end.log s.ring.sight.log
       → IsSteady s.proxy (around s) → IsBegun start s.proxy (around s) → HasRun first script start g s met
-  has_run first met run ports rest last idle numbers steady begun = record {
+  has_run first met run ports rest last idle lines numbers steady begun = record {
     run = run;
     ports = ports;
     rest = rest;
     last = last;
     idle = idle;
+    lines = lines;
     numbers = numbers;
     steady = steady;
     begun = begun;
-    right = right_of run rest last idle steady begun;
+    right = right_of run rest last idle lines steady begun;
   }
 
 -- A new proxy has the base path that it was given.
@@ -88,17 +93,19 @@ ready base (Ok p) is = λ ring contents faults silent.
     subst (λ (q : ProxyState). IsReady (start_with base contents faults) (record { proxy = q; ring = ring; contents = contents; faults = faults })) (sym is) now
 
 -- A host that is started has the streams that it had.
-still_unlabelled : (o n : Option HostContents) (P : HostContents → Type 0) → Exposes o n P after_start → ForSome o IsUnlabelled → ForSome n IsUnlabelled
-still_unlabelled None n P exposes unlabelled h there = absurd (let no : ◌≡◌ {A = Option HostContents} None (Some h) = sym exposes ∙ there in cc)
-still_unlabelled (Some c) n P exposes unlabelled h there =
-    subst IsUnlabelled (same_Some (after_start c) h (sym exposes.1 ∙ there)) (unlabelled c refl)
+still_so : (Q : HostContents → Type 0) → ((c : HostContents) → Q c → Q (after_start c)) → (o n : Option HostContents) (P : HostContents → Type 0)
+    → Exposes o n P after_start → ForSome o Q → ForSome n Q
+still_so Q starts None n P exposes so h there = absurd (let no : ◌≡◌ {A = Option HostContents} None (Some h) = sym exposes ∙ there in cc)
+still_so Q starts (Some c) n P exposes so h there = subst Q (same_Some (after_start c) h (sym exposes.1 ∙ there)) (starts c (so c refl))
 
 begun_before : (start now : Start) (g : GuestsState) (s : SideState) → now.base ≡ start.base → (ForSome start.contents IsUnlabelled → ForSome now.contents IsUnlabelled)
-    → now.faults ≡ start.faults → IsBegun now s.proxy (around s) → IsBegun start s.proxy (around s)
-begun_before start now g s path unlabelled same begun = record {
+    → (ForSome start.contents AreUnaccepted → ForSome now.contents AreUnaccepted) → now.faults ≡ start.faults → IsBegun now s.proxy (around s)
+    → IsBegun start s.proxy (around s)
+begun_before start now g s path unlabelled unaccepted same begun = record {
   based = begun.based ∙ path;
   drops = begun.drops;
   streamed = λ none. begun.streamed (unlabelled none);
+  shaken = λ none waits. begun.shaken (unlabelled none) (unaccepted waits);
   failed = subst (λ (n : ℕ). CountsFailed n s.proxy.device.faults s.faults) same begun.failed;
 }
 
@@ -111,8 +118,9 @@ module _ (base : List ℕ) (o n : Option HostContents) (P : HostContents → Typ
     met,
     shown,
     counted,
-    has_run script (start_with base o k) g s first met run.run run.ports run.rest run.last run.idle run.numbers run.steady
-        (begun_before (start_with base o k) (start_with base n m) g s refl (still_unlabelled o n P exposes) same run.begun),
+    has_run script (start_with base o k) g s first met run.run run.ports run.rest run.last run.idle run.lines run.numbers run.steady
+        (begun_before (start_with base o k) (start_with base n m) g s refl (still_so IsUnlabelled (λ c is. is) o n P exposes)
+        (still_so AreUnaccepted (λ c is. is) o n P exposes) same run.begun),
     rest,
   )
 
