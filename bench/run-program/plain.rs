@@ -3,6 +3,7 @@
 //! plain pair BYTES: a copy over a socket pair, between two threads.
 //! plain read PATH BYTES: listens at PATH, and reads of its one client to the end.
 //! plain write PATH BYTES: connects to PATH, asks for port 52 until it is answered by OK, writes, and reads to the end.
+//! plain sleep THREADS SLEEPS: so many threads, each of which sleeps a millisecond so many times.
 
 use std::env;
 use std::io::{self, Read, Write};
@@ -75,15 +76,26 @@ fn write(path: &str, bytes: usize) -> io::Result<(usize, Duration)> {
     Ok((bytes, begun.elapsed()))
 }
 
+fn sleep(threads: usize, sleeps: usize) -> io::Result<(usize, Duration)> {
+    let begun = Instant::now();
+    let sleepers = (0..threads).map(|_| thread::spawn(move || (0..sleeps).for_each(|_| thread::sleep(Duration::from_millis(1)))));
+    let sleepers: Vec<_> = sleepers.collect();
+    for sleeper in sleepers {
+        sleeper.join().expect("a sleeper ends");
+    }
+    Ok((sleeps, begun.elapsed()))
+}
+
 fn main() -> io::Result<()> {
     let words: Vec<String> = env::args().skip(1).collect();
     let words: Vec<&str> = words.iter().map(String::as_str).collect();
-    let bytes = words.last().and_then(|it| it.parse().ok()).expect("how many bytes");
+    let bytes = words.last().and_then(|it| it.parse().ok()).expect("how many");
     let (count, took) = match words[..] {
         ["pair", _] => pair(bytes)?,
         ["read", path, _] => read(path)?,
         ["write", path, _] => write(path, bytes)?,
-        _ => return Err(io::Error::other("pair BYTES, read PATH BYTES or write PATH BYTES")),
+        ["sleep", threads, _] => sleep(threads.parse().expect("how many threads"), bytes)?,
+        _ => return Err(io::Error::other("pair BYTES, read PATH BYTES, write PATH BYTES or sleep THREADS SLEEPS")),
     };
     println!("{count} {}", took.as_secs_f64());
     Ok(())

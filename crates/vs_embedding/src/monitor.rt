@@ -65,7 +65,8 @@ impl<V, H: HostNet> Model for Monitor<V, H> {
 
 impl<V: Virtqueues, H: HostNet> Monitor<V, H> {
     /// A device for the guest with a CID from 3 to 4,294,967,294, over virtqueues of `size` descriptors each and a host that no device had
-    /// before. The host starts to listen at the base path, 1 to 90 bytes, of its sockets. No later call takes memory.
+    /// before. The host starts to listen at the base path, 1 to 90 bytes, of its sockets. The device takes no memory in later calls; the
+    /// host may, as one over Unix sockets does when it accepts or dials.
     pub fn new(
         alloc: Global,
         queues: V,

@@ -177,9 +177,13 @@ module _ (c : HostContents) (log : Log) (port : Ports) (t : Table DeviceConnecti
   has_hand shaken j u seen_now busy = let v = was_shaken j u seen_now busy in shaken.hand j v.0 v.1 v.2
 
   still_older : AreOlder (look c) → AreOlder (look read_on)
-  still_older = older_back (look c) (look read_on) was_shaken (λ j u seen_now waits. (u, others_now j (λ place.
-      let one : reading (h.line ++ bytes) ≡ u = some_seen (reading (h.line ++ bytes)) u (sym line_now ∙ ap (look read_on) (sym place) ∙ seen_now) in
-      let both : false ≡ true = ap (λ (y : Seen). y.waiting) one ∙ waits in absurd cc) ∙ seen_now, waits))
+  still_older = older_back (look c) (look read_on) was_shaken (λ j u seen_now waits. (
+    u,
+    others_now j (λ place.
+        let one : reading (h.line ++ bytes) ≡ u = some_seen (reading (h.line ++ bytes)) u (sym line_now ∙ ap (look read_on) (sym place) ∙ seen_now) in
+        let both : false ≡ true = ap (λ (y : Seen). y.waiting) one ∙ waits in absurd cc) ∙ seen_now,
+    waits,
+  ))
 
   pub line_more : is_decided CONNECT_MAX (h.line ++ bytes) ≡ false → IsStreamed read_on log port t (with_line id (h.line ++ bytes) hands)
   line_more open_line = goes_with (with_line id (h.line ++ bytes) hands) (record {
@@ -389,8 +393,12 @@ module _ (c : HostContents) (log : Log) (port : Ports) (t : Table DeviceConnecti
   label_shaken shaken = record {
     hand = λ j u seen_now busy. let other = apart j u seen_now busy in shaken.hand j u (others_labelled j other ∙ seen_now) busy other;
     older = older_back (look c) (look labelled_now) (λ j u seen_now busy. (u, others_labelled j (apart j u seen_now busy) ∙ seen_now, busy))
-        (λ j u seen_now waits. (u, others_labelled j (λ place.
-        let both : false ≡ true = sym (ap (λ (s : Seen). s.waiting) (it_is j u seen_now place)) ∙ waits in absurd cc) ∙ seen_now, waits)) shaken.older;
+        (λ j u seen_now waits. (
+          u,
+          others_labelled j (λ place.
+              let both : false ≡ true = sym (ap (λ (s : Seen). s.waiting) (it_is j u seen_now place)) ∙ waits in absurd cc) ∙ seen_now,
+          waits,
+        )) shaken.older;
   }
     where
       it_is : (j : ℕ) (u : Seen) → look labelled_now j ≡ Some u → j ≡ id → u ≡ record (reading line) { label = Some first }

@@ -530,8 +530,12 @@ module _ (at now : ℕ → Option Seen) (labelled : List ℕ) (count more : Flow
   opened_shaken shaken = record {
     hand = λ j u seen busy. let other = not_it j u seen busy.free in shaken.hand j u (others j other ∙ seen) busy other;
     older = older_back at now (λ j u seen busy. (u, others j (not_it j u seen busy.free) ∙ seen, busy))
-        (λ j u seen waits. (u, others j (λ place.
-        let both : false ≡ true = sym busy ∙ ap (λ (y : Seen). y.waiting) (it_is j u seen place) ∙ waits in absurd cc) ∙ seen, waits)) shaken.older;
+        (λ j u seen waits. (
+          u,
+          others j (λ place.
+              let both : false ≡ true = sym busy ∙ ap (λ (y : Seen). y.waiting) (it_is j u seen place) ∙ waits in absurd cc) ∙ seen,
+          waits,
+        )) shaken.older;
   }
     where
       not_it : (j : ℕ) (u : Seen) → now j ≡ Some u → u.label ≡ None → j ≢ id
