@@ -57,7 +57,8 @@ module _ (script : RunScript) (start : Start) (g : GuestsState) (s : SideState) 
       )
 
   pub has_run : (first : ℕ) (met : Met) → IsRunOf FIRST_CID script (run_in g) → ArePortsFrom first g.entries → IsSettled g.driver g.end s.proxy s.ring
-      → LastRound script g s.proxy s.ring s.contents s.faults → AreIdle s.proxy.device.table s.contents → AreLinesIdle s.proxy s.contents → met ≡ met_between g.end.log s.ring.sight.log
+      → LastRound script g s.proxy s.ring s.contents s.faults → AreIdle s.proxy.device.table s.contents → AreLinesIdle s.proxy s.contents
+      → met ≡ met_between g.end.log s.ring.sight.log
       → IsSteady s.proxy (around s) → IsBegun start s.proxy (around s) → HasRun first script start g s met
   has_run first met run ports rest last idle lines numbers steady begun = record {
     run = run;

@@ -36,8 +36,8 @@ HasRightReport script start g s =
 
 -- The journal is that of a run of the script, whose connects gave the guest ports from the first on, one after another; both ends are at rest; in the
 -- last round nothing moved, and each app was done or waited; the stream of each connection that may read it, and has credit, has nothing to be taken,
--- and that of each connection with bytes pending takes none; nothing is there to be taken of any line that is being read; and so many packets and events were put and got. The proxy is steady, and came from where
--- the run began; so the report is right.
+-- and that of each connection with bytes pending takes none; nothing is there to be taken of any line that is being read; and so many packets and events
+-- were put and got. The proxy is steady, and came from where the run began; so the report is right.
 pub record HasRun (first : ℕ) (script : RunScript) (start : Start) (g : GuestsState) (s : SideState) (met : Met) : Type 0 where
   pub run : IsRunOf FIRST_CID script (run_in g)
   pub ports : ArePortsFrom first g.entries
