@@ -97,6 +97,7 @@ begun_log start s c d host faults log honest begun = record {
   based = begun.based;
   drops = λ on l is. begun.drops (sym honest ∙ on) l (sym log ∙ is);
   streamed = λ unlabelled on l is. begun.streamed unlabelled (sym honest ∙ on) l (sym log ∙ is);
+  shaken = λ unlabelled unaccepted on l is. begun.shaken unlabelled unaccepted (sym honest ∙ on) l (sym log ∙ is);
   failed = begun.failed;
 }
 
