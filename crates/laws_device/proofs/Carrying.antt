@@ -7,13 +7,13 @@ use Rattle.vs_outside.specs.Host.{HostContents, after_close}
 use Rattle.vs_proxy_parts.specs.State.{Handshake}
 use Rattle.vs_ring_port.specs.{Chains.Held, EndLog.EndLog}
 use Rattle.vs_device_parts.specs.{Calls.{HostMoves, Situation, DeviceTree}, Playing.{IsRxChain, Runs}, State.{DeviceConnection, DeviceState}}
-use Rattle.laws_device.proofs.{Named.Tables.{some_after, some_from}, Ringing.{Telling, Tells, host_moves, tells_weaker}, Chains.{Among, alone, alone_so}, Seats.{AgreesBy, Carried}, Sure.Guard}
-use Rattle.laws_device.{proofs.Keeping.{Keeps, keeps_end}, specs.{Carried.Streamed.{IsStreamed, ports_of}, Honest.{IsFitState, IsWith}, Streams.{AreHeard, AreStreamedSince}}}
+use Rattle.laws_walks.proofs.Named.Tables.{some_after, some_from}
+use Rattle.laws_streams.{specs.Streamed.{IsStreamed, ports_of, Since, lasting, serving_of}, proofs.Changing.lost_streams}
+use Rattle.laws_device.proofs.{Ringing.{Telling, Tells, host_moves, tells_weaker}, Chains.{Among, alone, alone_so}, Seats.{AgreesBy, Carried}, Sure.Guard, Keeping.Keeps}
+use Rattle.laws_device.{proofs.Keeping.keeps_end, specs.{Honest.{IsFitState, IsWith}, Streams.{AreHeard, AreStreamedSince}}}
 use Rattle.laws_tables.proofs.Fair.{got_one}
-use Rattle.laws_device.specs.Carried.Streamed.{Since, lasting, serving_of}
 use Rattle.vs_device_parts.specs.Connections.{with_fault}
 use Rattle.vs_wrap.specs.Wrap.{counted}
-use Rattle.laws_device.proofs.Carried.Changing.{lost_streams}
 use Rattle.std.proofs.{Common.{arith, refl}, lemmas.{Bool.Decides.nat_tests, Grind.common_steps}}
 
 abbrev pub Fact : Type 1

@@ -6,9 +6,9 @@ use Rattle.vs_ring_port.specs.{Chains.Held, EndLog.EndLog}
 use Rattle.laws_tables.{specs.Both.{Seat, after}, proofs.{Going.{Goes, goes_on, stays}, Shutting.goes_past}}
 use Rattle.vs_device_parts.specs.{Calls.{DeviceTree, Situation}, Playing.Runs, State.DeviceState}
 use Rattle.vs_proxy_parts.specs.State.{Handshake}
-use Rattle.laws_device.{specs.{Honest.{IsWith, StaysPast}, Streams.AreHeard}, proofs.{Carrying.{With, heard_before, ring_only}, Chains.{Among, alone_so}, Keeping.{Keeps, keeps_end}}}
-use Rattle.laws_device.specs.Carried.Streamed.{lasting}
-use Rattle.laws_device.proofs.{Logs.goes_on as log_goes_on, Seats.{Carried, seat}}
+use Rattle.laws_streams.specs.Streamed.{lasting}
+use Rattle.laws_device.{specs.{Honest.{IsWith, StaysPast}, Streams.AreHeard}, proofs.{Carrying.{With, heard_before, ring_only}, Chains.{Among, alone_so}, Keeping.Keeps}}
+use Rattle.laws_device.proofs.{Keeping.keeps_end, Logs.goes_on as log_goes_on, Seats.{Carried, seat}}
 
 abbrev pub going : Seat → Carried
 going v = record {

@@ -15,10 +15,9 @@ use Rattle.vs_wrap.specs.Wrap.{counted}
 use Rattle.laws_tables.proofs.Fair.{got_formed}
 use Rattle.vs_device_parts.specs.{Calls.{Accept, Answer, Call, CloseStream, DeviceTree, Dial, Label, ReadStream, Ring, ShutWrite, Situation, WriteStream}, Playing.Runs}
 use Rattle.vs_device_parts.specs.Receiving.{written}
-use Rattle.laws_device.{specs.Dropped.{IsCounted}, proofs.Walk.{Fields.{AfterEventPage, AfterTx, Calls, Fields, HeaderRead, TxCalls, after_rx}, Keeping.Asking}}
-use Rattle.laws_device.proofs.{Walk.Single.OneByOne, Keeping.{Keeps, Lets, lets}, Named.Keeping.asking as asked, Ringing.{Telling, Tells, bytes_held, moves}}
-use Rattle.laws_device.proofs.Transmitting.{header_is}
-use Rattle.laws_device.proofs.Walk.Keeping as walked
+use Rattle.laws_walks.proofs.{Fields.{AfterEventPage, AfterTx, Calls, Fields, HeaderRead, TxCalls, after_rx}, Keeping.Asking, Single.OneByOne, Named.Keeping.asking as asked}
+use Rattle.laws_device.{specs.Dropped.IsCounted, proofs.{Keeping.{Keeps, Lets, lets}, Ringing.{Telling, Tells, bytes_held, moves}, Transmitting.header_is}}
+use Rattle.laws_walks.proofs.Keeping as walked
 use Rattle.vs_ring_port.specs.declared.device_ring.Next.TheVariants as next
 
 -- What a call does to the ring.

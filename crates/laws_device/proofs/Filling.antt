@@ -1,10 +1,11 @@
 -- What filling the receive queue keeps, part by part.
+use Rattle.laws_walks.proofs.Keeping.{keeps_if, keeps_some}
+use Rattle.laws_streams.proofs.Changing.{MayFollow, asks_streams, called_host, closes_streams, ends_streams, leaves_streams, put_empty, reads_streams, shuts_streams}
+use Rattle.laws_streams.{proofs.{Tabled.value_contained, Gives.pays_gives}, specs.Streamed.{ports_of, IsStreamed}}
 use Rattle.laws_device.proofs.{Tabling.{has_end, entry_fits}, Seats.{LeftBy, AgreesBy, Carried}, Carrying.{Fact, IsHeldBy, StreamedOver, With, closed_held, fact_called, put_goes}}
-use Rattle.laws_device.proofs.{Carrying.{streams_call, streams_go}, Changing.{cuts, shuts, wants, same}, Keeping.{Goes, Keeps, asking, Lets, keeps_bind, keeps_each, keeps_then}}
-use Rattle.laws_device.proofs.{Keeping.keeps_while, Putting.{Puts, owed_puts, reply_puts, rst_puts, send_puts}, Steps.{Filled, Open, changed, closing_keeps, cut_with, goes_on}}
-use Rattle.laws_device.proofs.{Sure.good_fair, Steps.{hold_keeps, open_filled, called_with}, Writing.{writes_first, written_keeps}, Walk.Keeping.{keeps_if, keeps_some}, Carried.Changing.MayFollow}
-use Rattle.laws_device.proofs.Carried.Changing.{asks_streams, called_host, closes_streams, ends_streams, leaves_streams, put_empty, reads_streams, shuts_streams}
-use Rattle.laws_device.{proofs.Carried.{Tabled.value_contained, Gives.pays_gives}, specs.{Carried.Streamed.{ports_of, IsStreamed}, Honest.IsFitState}}
+use Rattle.laws_device.proofs.{Carrying.{streams_call, streams_go, faulted}, Changing.{cuts, shuts, wants, same}, Keeping.{Goes, Keeps, asking, Lets, keeps_bind, keeps_each}}
+use Rattle.laws_device.proofs.{Keeping.{keeps_then, keeps_while}, Putting.{Puts, owed_puts, reply_puts, rst_puts, send_puts}, Steps.{Filled, Open, changed, closing_keeps}}
+use Rattle.laws_device.{proofs.{Steps.{cut_with, goes_on, hold_keeps, open_filled, called_with}, Sure.good_fair, Writing.{writes_first, written_keeps}}, specs.Honest.IsFitState}
 use Rattle.laws_tables.{specs.{Ends.{is_among, is_new}, Steps.payload_on}, proofs.{Keeps.owed_old, Slots.found_by}}
 use Rattle.vs_ring_port.specs.{EndLog.EndLog, declared.{device_ring.Chain.Chain, failure.Failure.Failure}}
 use Rattle.std.proofs.Common.{◌≡◌, ℕ, ◌+◌, ◌≤◌, ◌==◌, ◌&&◌, ◌||◌, not, Bool, true, false, cond, if◌then◌else◌, List, [], ◌∷◌, length, Contains, Option, Some, None, Result, Ok, Err}
@@ -25,7 +26,6 @@ use Rattle.vs_device_parts.specs.{Streams.closing, Playing.IsRxChain, State.{Dev
 use Rattle.vs_proxy_parts.specs.State.{Handshake}
 use Rattle.vs_page.specs.{Fair.IsFairLog, Log.{Log, Device, flow_to_guest}, declared.log.LogEntry.TheVariants.PutPacket}
 use Rattle.vs_limits.specs.declared.TheConstants.{OWED_MAX}
-use Rattle.laws_device.proofs.Carrying.{faulted}
 use Rattle.vs_conn.specs.declared.end.Owed.TheVariants as owed
 use Rattle.vs_conn.specs.declared.end.State.TheVariants as state
 use Rattle.vs_outside.specs.declared.host_net.StreamRead.TheVariants as read

@@ -2,9 +2,10 @@
 use Rattle.std.proofs.Common.{arith}
 use Rattle.std.proofs.lemmas.Grind.{common_steps}
 use Rattle.std.proofs.Common.{Bool, false}
-use Rattle.laws_device.{specs.{Carried.Streamed.ports_of, Honest.IsWith, Named.Streams.HasStreams, Streams.AreStreamedSince}, proofs.Carrying.{With, held_with, plain_with}}
-use Rattle.laws_device.proofs.{Carrying.{ring_and_host, ring_only, with_ring, with_streams}, Changing.grows, Carried.Changing.ends_streams, Named.Tables.entry_by_slot}
-use Rattle.laws_device.proofs.{Named.Tables.{has_changed, value_by_entry}, Steps.changed, Seats.Carried, Walk.Serving.by_slot}
+use Rattle.laws_walks.{specs.Named.Streams.HasStreams, proofs.{Named.Tables.{entry_by_slot, has_changed, value_by_entry}, Serving.by_slot}}
+use Rattle.laws_streams.{specs.Streamed.ports_of, proofs.Changing.ends_streams}
+use Rattle.laws_device.{specs.{Honest.IsWith, Streams.AreStreamedSince}, proofs.Carrying.{With, held_with, plain_with, ring_and_host, ring_only, with_ring, with_streams}}
+use Rattle.laws_device.proofs.{Changing.grows, Steps.changed, Seats.Carried}
 use Rattle.std.proofs.Common.{◌≡◌, ℕ, List, [], Some, None, refl}
 use Rattle.vs_conn.specs.End.{grown}
 use Rattle.vs_flow.specs.Table.{entry_under}

@@ -1,11 +1,14 @@
 -- What the device keeps as it takes a packet, whose page stands in the log: each verdict, and each end of a REQUEST.
-use Rattle.laws_device.proofs.Carried.Changing.{keeps_streams, accepts_streams, called_host, closes_streams, delivered_rw, delivers_streams, dialed_id, empty_streams, failed_host}
-use Rattle.laws_device.proofs.Carried.{Changing.{hears_streams, leaves_streams, passes_streams, payload_in, reset_empty, unknown_streams}, Counted.request_empty, Streamed.join_of}
-use Rattle.laws_device.proofs.{Carried.Opens.dial_host, Ringing.{Tells, moves, tells_weaker, host_moves, Telling, bytes_held}, Taking.{drops_it, ignores_it}, Sure.{Good, Guard, given_so, good_fair, guard_same}}
-use Rattle.laws_device.proofs.{Taking.{leaves_with, opens, replies_to, stays_with}, Tabling.{IsFitConnection, begun_fits, entry_fits, has_end}, Carrying.{Fact, Closes}}
-use Rattle.laws_device.proofs.{Carrying.{StreamedOver, streams_call, streams_go}, Chains.Behind, Seats.{AgreesBy, Carried, LeftBy, seat}, Fits.{fewer, fits_after}}
-use Rattle.laws_device.{proofs.{Keeping.{Keeps, asking, Lets, keeps_bind}, Steps.closing_keeps, Walk.Keeping.{keeps_if, keeps_some}}, specs.Carried.Streamed.{Ports, ports_of}}
-use Rattle.laws_device.specs.{Carried.Streamed.{IsStreamed, count_in, gives, look}, Honest.{HoldsBytes, ends_of_state}}
+use Rattle.laws_walks.proofs.Keeping.{keeps_if, keeps_some}
+use Rattle.laws_streams.proofs.Changing.{keeps_streams, accepts_streams, called_host, closes_streams, delivered_rw, delivers_streams, dialed_id, empty_streams, failed_host}
+use Rattle.laws_streams.proofs.{Changing.{hears_streams, leaves_streams, passes_streams, payload_in, reset_empty, unknown_streams, lost_streams}, Counted.{request_empty, Lacks}}
+use Rattle.laws_streams.{proofs.{Counted.{full_lacks, lost_lacks, none_lacks, odd_lacks, own_lacks, unheard_lacks}, Streamed.join_of, Opens.dial_host}, specs.Streamed.Ports}
+use Rattle.laws_streams.specs.Streamed.{ports_of, IsStreamed, count_in, gives, look, heard_at, is_heard}
+use Rattle.laws_device.proofs.{Ringing.{Tells, moves, tells_weaker, host_moves, Telling, bytes_held}, Taking.{drops_it, ignores_it, leaves_with, opens, replies_to, stays_with}}
+use Rattle.laws_device.proofs.{Sure.{Good, Guard, given_so, good_fair, guard_same}, Tabling.{IsFitConnection, begun_fits, entry_fits, has_end}, Carrying.{Fact, Closes}}
+use Rattle.laws_device.proofs.{Carrying.{StreamedOver, streams_call, streams_go, dropped_lost, faulted_lost, faulted_streams}, Chains.Behind, Seats.{AgreesBy, Carried, LeftBy}}
+use Rattle.laws_device.{proofs.{Seats.seat, Fits.{fewer, fits_after}, Keeping.{Keeps, asking, Lets, keeps_bind}, Steps.closing_keeps}, specs.Honest.{HoldsBytes, ends_of_state}}
+use Rattle.laws_device.specs.Honest.{IsFitState}
 use Rattle.vs_device_parts.specs.{Transmitting.{keeps_flow, dial_answered, heard, on_known, on_packet, on_unknown, refused, unknown_why}, Connections.keeping}
 use Rattle.vs_device_parts.specs.{Connections.{after_leaving, stream_closed, with_connection, with_dialed, with_fault, with_reply}, Calls.{DeviceTree, Dial, HostMoves, Situation}}
 use Rattle.vs_device_parts.specs.{State.{DeviceConnection, DeviceEntry, DeviceState}, Streams.{closing, leaving}}
@@ -26,10 +29,6 @@ use Rattle.laws_tables.{specs.{Drains.delivered, Ends.is_new, Steps.{is_overrun,
 use Rattle.vs_wrap.specs.Wrap.{counted}
 use Rattle.vs_proxy_parts.specs.State.{Handshake}
 use Rattle.vs_uds.specs.OkLine.{ok_text}
-use Rattle.laws_device.proofs.Carried.Changing.{lost_streams}
-use Rattle.laws_device.proofs.Carried.Counted.{Lacks, full_lacks, lost_lacks, none_lacks, odd_lacks, own_lacks, unheard_lacks}
-use Rattle.laws_device.specs.Carried.Streamed.{heard_at, is_heard}
-use Rattle.laws_device.specs.Honest.{IsFitState}
 use Rattle.vs_flow.specs.Flow.{host_asks}
 use Rattle.vs_flow.specs.Table.{IsRising, IsTable, Table}
 use Rattle.vs_outside.specs.Host.{dial_answer}
@@ -37,7 +36,6 @@ use Rattle.vs_conn.specs.declared.end.Verdict.TheVariants as verdict
 use Rattle.vs_conn.specs.declared.end.Why.TheVariants as why
 use Rattle.vs_outside.specs.declared.host_net.Dialed.TheVariants as dialed
 use Rattle.vs_uds.specs.Path.{path_of}
-use Rattle.laws_device.proofs.Carrying.{dropped_lost, faulted_lost, faulted_streams}
 use Rattle.vs_limits.specs.declared.TheConstants.{DEVICE_CONNECTIONS}
 use Rattle.std.proofs.Common.{nat_lt, suc, ◌<◌}
 

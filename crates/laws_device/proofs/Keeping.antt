@@ -4,10 +4,11 @@ use Rattle.vs_contents.specs.CallTree.{Done, Ask, bind, for_each, while_up_to}
 use Rattle.vs_ring_port.specs.{Contents.{RingContents, DeviceCall, Read, Write, Return, PublishCid, DeviceAnswer}, DeviceCalls.{CanReturn, LeavesNoGap, DeviceAllows}}
 use Rattle.vs_ring_port.specs.{Chains.chains_of, declared.{device_ring.Chain.Chain, queue.Queue.TheVariants.Tx}}
 use Rattle.vs_header.specs.{Packet.header_of, declared.TheConstants.HEADER_LEN}
-use Rattle.laws_device.{specs.{Honest.is_held, Named.Split.{CanPut, MayPut}}, proofs.{Walk.Keeping.Asking, Named.Keeping.asking as asked}}
+use Rattle.laws_walks.{specs.Named.Split.{CanPut, MayPut}, proofs.{Keeping.Asking, Named.Keeping.asking as asked}}
+use Rattle.laws_device.specs.Honest.{is_held}
 use Rattle.vs_page.{specs.Held.FitsWire, proofs.Holding.header_fits}
 use Rattle.vs_device_parts.specs.{Calls.{IsFitAnswer, Call, Answer, Ring, DeviceTree, Situation, Allows}, Playing.Runs}
-use Rattle.laws_device.proofs.Walk.Keeping as walked
+use Rattle.laws_walks.proofs.Keeping as walked
 
 -- The chain is among those that are held.
 abbrev pub HoldsChain : Chain → RingContents → Type 0

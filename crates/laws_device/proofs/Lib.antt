@@ -3,7 +3,6 @@ pub mod Keeping
 pub mod Seats
 pub mod Shown
 pub mod Fits
-pub mod Clean
 pub mod Tabling
 pub mod Chains
 pub mod Changing
@@ -24,7 +23,4 @@ pub mod Deciding
 pub mod Waiting
 pub mod Logs
 pub mod Dropping
-pub mod Walk
-pub mod Named
-pub mod Carried
 pub mod Ordering

@@ -9,10 +9,10 @@ use Rattle.vs_outside.specs.Host.{HostContents}
 use Rattle.laws_tables.specs.{Steps.IsNextFlow}
 use Rattle.vs_device_parts.specs.Calls.{Accept, Allows, Answer, Call, CloseStream, DeviceTree, Dial, HostMoves, Label, ReadStream, Ring, ShutWrite, Situation, WriteStream}
 use Rattle.vs_device_parts.specs.{Playing.{Runs}, State.{DeviceState, new_device}, Turns.{open_of}}
-use Rattle.laws_device.proofs.{Carrying.{StreamedOver, With}, Chains.{Among, alone, alone_so}, Keeping.{Keeps, asking, keeps_end}, Seats.Carried}
-use Rattle.laws_device.proofs.{Turning.{label_keeps, new_with}, Walk.Keeping.keeps_some}
-use Rattle.laws_device.specs.Carried.Streamed.{lasting}
-use Rattle.laws_device.specs.{Honest.{IsFitFlow, IsFresh, ends_of_state, port_after}, Told.{IsToldWith}}
+use Rattle.laws_walks.proofs.Keeping.{keeps_some}
+use Rattle.laws_streams.specs.Streamed.{lasting}
+use Rattle.laws_device.proofs.{Carrying.{StreamedOver, With}, Chains.{Among, alone, alone_so}, Keeping.{Keeps, asking, keeps_end}, Seats.Carried, Turning.{label_keeps, new_with}}
+use Rattle.laws_device.specs.{Honest.{IsFitFlow, IsFresh, ends_of_state, port_after}, Told.IsToldWith}
 use Rattle.vs_proxy_parts.specs.State.{Handshake}
 use Rattle.laws_tables.specs.Steps as steps
 

@@ -5,7 +5,8 @@ use Rattle.vs_flow.specs.{declared.flow.Flow.Flow, Table.Table}
 use Rattle.vs_limits.specs.declared.TheConstants.{HOST_CID}
 use Rattle.vs_page.specs.{Log.{flow_got, Device, Log, packets_put}, Open.is_dropped, declared.log.LogEntry.{LogEntry, TheVariants.GotPacket}, Fair.IsFairLog, Held.FitsWire}
 use Rattle.laws_tables.{specs.{Steps.HasEnd, Both.{Asks, Opens, Seat, Step, after}, Ends.Ends, Matches.Matches}, proofs.Going.MayDo}
-use Rattle.laws_device.{specs.{Carried.Streamed.{Since, gives}, Honest.{IsFit, ends_of_state, ends_with}}, proofs.Sure.{Given, Good}}
+use Rattle.laws_streams.specs.Streamed.{Since, gives}
+use Rattle.laws_device.{specs.Honest.{IsFit, ends_of_state, ends_with}, proofs.Sure.{Given, Good}}
 use Rattle.laws_history.specs.declared.packet.Packet.{Packet}
 use Rattle.vs_ring_port.specs.{Chains.Held, EndLog.EndLog}
 use Rattle.vs_replies.specs.declared.Reply.{Reply}

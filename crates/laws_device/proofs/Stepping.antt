@@ -12,10 +12,11 @@ use Rattle.vs_ring_port.specs.{Contents.Take, DeviceCalls.IsTakenAs, EndLog.{End
 use Rattle.vs_device_parts.specs.Steps.{chain_came, filling, puts_event, puts_owed, puts_payload, puts_reply, reads, returns, shuts_write, takes_chain, writes, writes_on, writing}
 use Rattle.vs_device_parts.specs.{Receiving.{Filling, may_read, put_owed, put_reply}, Calls.{DeviceTree, Ring, Situation}, Playing.IsRxChain, State.DeviceState, Streams.shut_write}
 use Rattle.vs_device_parts.specs.{Streams.write_pending, Transmitting.failing}
+use Rattle.laws_walks.proofs.Keeping.{keeps_if, keeps_some}
 use Rattle.laws_device.{specs.Honest.is_held, proofs.{Chains.{Among, among_more, among_without, held_there}, Filling.{Over, Ready, put_owed_keeps, put_reply_keeps, step_keeps}}}
 use Rattle.laws_device.proofs.{Filling.under_there, Keeping.{Goes, Keeps, asking, Lets, keeps_then}, Carrying.{IsToldBy, StreamedOver, With}, Hearing.{After, Heard}}
-use Rattle.laws_device.proofs.{Steps.{none_came, hold_keeps}, Sure.Guard, Ringing.{moves, tells_weaker}, Seats.{Carried, LeftBy}, Transmitting.{read_keeps, tx_keeps}, Turning.event_put}
-use Rattle.laws_device.proofs.{Turning.{shut_keeps, write_keeps_all}, Walk.Keeping.{keeps_if, keeps_some}}
+use Rattle.laws_device.proofs.{Steps.{none_came, hold_keeps}, Sure.Guard, Ringing.{moves, tells_weaker}, Seats.{Carried, LeftBy}, Transmitting.{read_keeps, tx_keeps}}
+use Rattle.laws_device.proofs.Turning.{event_put, shut_keeps, write_keeps_all}
 use Rattle.vs_proxy_parts.specs.State.{Handshake}
 use Rattle.vs_ring_port.specs.declared.device_ring.Next.TheVariants as next
 

@@ -6,9 +6,11 @@ use Rattle.vs_ring_port.specs.{EndLog.{EndLog, log_taken}, Contents.Take, Device
 use Rattle.vs_ring_port.specs.declared.{queue.Queue.Queue, failure.Failure.Failure}
 use Rattle.vs_device_parts.specs.{Calls.{DeviceTree, HostMoves, Ring, Situation}, Receiving.{Filling, hold, holding}, Connections.{cut_off, with_connection}, Playing.IsRxChain}
 use Rattle.vs_device_parts.specs.{State.{DeviceConnection, DeviceEntry, DeviceState}, Streams.closing, Transmitting.failing}
-use Rattle.laws_device.{specs.{Honest.IsFitState, Carried.Streamed.{IsStreamed, ports_of}}, proofs.Carrying.{Closes, Fact, IsHeldBy, IsToldBy, StreamedOver, With, closed_with}}
-use Rattle.laws_device.proofs.{Carrying.{streams_call, streams_go}, Chains.{Among, is_unwritten, taken_holds}, Seats.Carried, Changing.Changes, Keeping.{Goes, Keeps, asking, Lets}}
-use Rattle.laws_device.proofs.{Ringing.{moves, host_moves, tells_weaker}, Sure.{Given, guard_failed, guard_honest, guard_same, guard_sure}, Walk.Keeping.keeps_if, Carried.{Changing.cuts_streams, HostCalls.cut_host}}
+use Rattle.laws_walks.proofs.Keeping.{keeps_if}
+use Rattle.laws_streams.{specs.Streamed.{IsStreamed, ports_of}, proofs.{Changing.cuts_streams, HostCalls.cut_host}}
+use Rattle.laws_device.{specs.Honest.IsFitState, proofs.{Carrying.{Closes, Fact, IsHeldBy, IsToldBy, StreamedOver, With, closed_with, streams_call, streams_go}, Chains.Among}}
+use Rattle.laws_device.proofs.{Chains.{is_unwritten, taken_holds}, Seats.Carried, Changing.Changes, Keeping.{Goes, Keeps, asking, Lets}, Ringing.{moves, host_moves, tells_weaker}}
+use Rattle.laws_device.proofs.Sure.{Given, guard_failed, guard_honest, guard_same, guard_sure}
 use Rattle.vs_proxy_parts.specs.State.{Handshake}
 use Rattle.vs_outside.specs.Host.{HostContents}
 use Rattle.vs_page.specs.Log.{Log}

@@ -14,9 +14,10 @@ use Rattle.laws_tables.proofs.Fair.{got_formed}
 use Rattle.vs_device_parts.specs.{Calls.{Ring, Situation, DeviceTree}, Transmitting.{failing, on_next, on_packet, take_tx_of}, declared.answers.Taken.Taken, Playing.IsRxChain}
 use Rattle.vs_device_parts.specs.State.{DeviceState}
 use Rattle.vs_limits.specs.declared.TheConstants.{DEVICE_REPLIES}
+use Rattle.laws_walks.proofs.Keeping.{keeps_if}
 use Rattle.laws_device.proofs.{Ringing.{Tells, bytes_held, first_is_held, first_there, moves, returned_entries, returned_held, tells_weaker, Telling}, Hearing.{After, Came, Heard}}
 use Rattle.laws_device.proofs.{Hearing.{IsCome, packet_keeps}, Keeping.{Keeps, asking, Lets, keeps_then}, Carrying.{Fact, IsToldBy, StreamedOver, With}, Chains.{Among, Behind}}
-use Rattle.laws_device.proofs.{Seats.{Carried, LeftBy}, Steps.{it_failed, none_came}, Sure.{Good, Guard, good_fair, good_of, guard_failed, guard_honest, guard_packet, guard_sure}, Walk.Keeping.keeps_if}
+use Rattle.laws_device.proofs.{Seats.{Carried, LeftBy}, Steps.{it_failed, none_came}, Sure.{Good, Guard, good_fair, good_of, guard_failed, guard_honest, guard_packet, guard_sure}}
 use Rattle.vs_outside.specs.Host.{HostContents}
 use Rattle.vs_proxy_parts.specs.State.{Handshake}
 use Rattle.vs_ring_port.specs.declared.device_ring.Next.TheVariants as next

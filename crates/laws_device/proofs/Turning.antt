@@ -20,17 +20,17 @@ use Rattle.vs_device_parts.specs.Connections.{after_shut, after_written, cut_off
 use Rattle.vs_device_parts.specs.Streams.{Writing, closing, is_written_out, pump_of, pump_slot, shut_write, tick_of, tick_slot, to_write, write_answered, write_pending}
 use Rattle.vs_device_parts.specs.{Calls.{DeviceTree, Label, Ring, ShutWrite, WriteStream, Situation}, Turns.{after_reset, close_slot, open_of, reset_of}, State.new_device}
 use Rattle.vs_device_parts.specs.{State.{DeviceConnection, DeviceEntry, DeviceState}, Receiving.{event_on, pay_event_of}}
-use Rattle.laws_device.proofs.{Carrying.{ring_only, Fact, IsHeldBy, fact_goes, IsToldBy, StreamedOver, With, closed_held, streams_go, plain_with}, Chains.{Among, first_written}}
-use Rattle.laws_device.proofs.{Chains.{held_there, is_unwritten, taken_holds}, Changing.{cuts, shuts, unseen, writes, same}, Ringing.{Tells, moves, host_moves}, Keeping.Lets}
-use Rattle.laws_device.proofs.{Keeping.{Keeps, asking as asked_of, keeps_each, keeps_then}, Seats.{AgreesBy, Carried, LeftBy, at_log, seat}, Writing.{write_keeps, Writes}}
+use Rattle.laws_walks.proofs.{Keeping.{keeps_if, keeps_some}, Named.Tables.{some_after, some_from}}
+use Rattle.laws_streams.proofs.{Changing.{called_host, ends_streams, event_streams, failed_host, mark_streams, shut_write_host, shuts_streams, writes_streams}, Closing.IsClosing}
+use Rattle.laws_streams.{proofs.Closing.{closing_done as all_closed, closing_from, closing_now, closing_passes, closing_was}, specs.Streamed.{IsStreamed, ports_of}}
+use Rattle.laws_device.proofs.{Carrying.{ring_only, Fact, IsHeldBy, fact_goes, IsToldBy, StreamedOver, With, closed_held, streams_go, plain_with, faulted}, Chains.Among}
+use Rattle.laws_device.proofs.{Chains.{first_written, held_there, is_unwritten, taken_holds}, Changing.{cuts, shuts, unseen, writes, same}, Ringing.{Tells, moves, host_moves}}
+use Rattle.laws_device.proofs.{Keeping.{Lets, Keeps, asking as asked_of, keeps_each, keeps_then}, Seats.{AgreesBy, Carried, LeftBy, at_log, seat}, Writing.{write_keeps, Writes}}
 use Rattle.laws_device.proofs.{Filling.under_there, Steps.{it_failed, none_came, cut_with, seat_changed, closing_keeps, called_with}, Tabling.{IsFitConnection, entry_fits}}
-use Rattle.laws_device.proofs.{Tabling.{opening_fits, removed_fit}, Walk.Keeping.{keeps_if, keeps_some}, Carried.Changing.{called_host, ends_streams}}
-use Rattle.laws_device.proofs.Carried.{Changing.{event_streams, failed_host, mark_streams, shut_write_host, shuts_streams, writes_streams}, Closing.IsClosing}
-use Rattle.laws_device.proofs.{Carried.Closing.{closing_done as all_closed, closing_from, closing_now, closing_passes, closing_was}, Named.Tables.{some_after, some_from}}
-use Rattle.laws_device.specs.{Honest.{IsFitClean, IsFitFlow, IsFitState, IsFresh, IsWith, end_in, ends_of_state, port_after}, Carried.Streamed.{IsStreamed, ports_of}}
+use Rattle.laws_device.{proofs.{Tabling.{opening_fits, removed_fit}, Sure.{Guard, good_event, good_mark, guard_entry}}, specs.Honest.{IsFitClean, IsFitFlow, IsFitState, IsFresh}}
+use Rattle.laws_device.specs.Honest.{IsWith, end_in, ends_of_state, port_after}
 use Rattle.vs_header.specs.declared.Kind.TheVariants.{Stream}
 use Rattle.vs_proxy_parts.specs.State.{Handshake}
-use Rattle.laws_device.proofs.{Carrying.faulted, Sure.{Guard, good_event, good_mark, guard_entry}}
 use Rattle.laws_tables.specs.Steps as steps
 use Rattle.vs_outside.specs.declared.host_net.StreamWrite.TheVariants as write
 use Rattle.vs_ring_port.specs.declared.device_ring.Next.TheVariants as next

@@ -1,8 +1,8 @@
 -- The device's table by the log and by the host's streams.
 use Rattle.std.proofs.lemmas.Grind.{common_steps}
-use Rattle.laws_device.specs.Carried.Streamed.{Ports, ports_of, IsJoined, IsStreamed, Seen, client_waits, connection_in, connection_of, count_in, lasting, look, seen}
-use Rattle.laws_device.{specs.{Streams.{AreStreamedSince, IsTabledWith, has_open_stream, is_open_in, is_open_on}, Honest.IsWith}, proofs.Carried.Closing.{is_under, named}}
-use Rattle.laws_device.proofs.{Carried.{HostCalls.some_seen, Hosts.{label_here, label_there, there}}, Shown.{left_open, same_flows}}
+use Rattle.laws_streams.specs.Streamed.{Ports, ports_of, IsJoined, IsStreamed, Seen, client_waits, connection_in, connection_of, count_in, lasting, look, seen}
+use Rattle.laws_streams.proofs.{Closing.{is_under, named}, HostCalls.some_seen, Hosts.{label_here, label_there, there}}
+use Rattle.laws_device.{specs.{Streams.{AreStreamedSince, IsTabledWith, has_open_stream, is_open_in, is_open_on}, Honest.IsWith}, proofs.Shown.{left_open, same_flows}}
 use Rattle.std.proofs.Common.{◌≡◌, ℕ, zero, suc, ◌+◌, ◌-◌, ◌<◌, ◌==◌, ◌&&◌, ◌||◌, Bool, true, false, cond, List, [], ◌∷◌, length, map, Contains, slice_get, slice_index_or, Option}
 use Rattle.std.{proofs.{Common.{Some, None, refl, sym, ap, subst, ◌∙◌, arith}, lemmas.{Bool.{Decides.nat_tests, and_parts}, List.Elements.All-contains}}}
 use Rattle.std.proofs.lemmas.{List.Folds.{Any-from_list_any, list_any_at}, Option.{get_or_from_slice_get, slice_get-get_or, slice_get_within}}

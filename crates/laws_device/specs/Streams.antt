@@ -6,7 +6,8 @@ use Rattle.vs_page.specs.{Fair.number_of, Log.{Device, Log, flow_got}, Open.{cid
 use Rattle.vs_proxy_parts.specs.State.{Handshake}
 use Rattle.vs_device_parts.specs.{Calls.Situation, State.DeviceState, Turns.table_shown}
 use Rattle.laws_tables.specs.Ends.{is_among, replied}
-use Rattle.laws_device.specs.{Honest.flows_shown, Carried.Streamed.{IsStreamed, count_in, lasting, ports_of}}
+use Rattle.laws_streams.specs.Streamed.{IsStreamed, count_in, lasting, ports_of}
+use Rattle.laws_device.specs.Honest.{flows_shown}
 
 -- No packet with payload of an open connection was dropped.
 abbrev pub AreHeard : ℕ → Log → Type 0

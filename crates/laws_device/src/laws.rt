@@ -13,9 +13,10 @@ ghost use Rattle.vs_ring_port.specs.declared.queue.Queue.TheVariants.{Event, Rx,
 ghost use Rattle.vs_device_parts.specs.{Calls.{Allows, DeviceTree, Ring, Situation}, Playing.{MayRun, Runs}, Receiving.{event_on, fill_rx_of, pay_event_of, written}};
 ghost use Rattle.vs_device_parts.specs.{State.{DeviceEntry, DeviceState, new_device}, Streams.{Writing, pump_of, tick_of}, Transmitting.take_tx_of, Turns.{open_of, reset_of}};
 ghost use Rattle.vs_device_parts.specs.{Turns.table_shown, declared.answers.{Filled.Filled, Taken.Taken}};
-ghost use Rattle.laws_device.specs.{Named.Streams.FindsStreams, Honest.{Advertises, AgreesWith, IsClients, IsFitFlow, IsFresh, IsLeftOpen, IsWith, StaysPast, ends_of_state, port_after}};
-ghost use Rattle.laws_device.specs.{Packets.{HasAdded, HasTaken, HoldsLast, IsWholeAs, packet_with}, Streams.{AreStreamedSince, IsTabledWith, is_waiting_for_request}};
-ghost use Rattle.laws_device.specs.Worked.{asked_log, client_flow, client_host};
+ghost use Rattle.laws_walks.specs.Named.Streams.{FindsStreams};
+ghost use Rattle.laws_device.specs.{Honest.{Advertises, AgreesWith, IsClients, IsFitFlow, IsFresh, IsLeftOpen, IsWith, StaysPast, ends_of_state, port_after}, Packets.HasAdded};
+ghost use Rattle.laws_device.specs.{Packets.{HasTaken, HoldsLast, IsWholeAs, packet_with}, Streams.{AreStreamedSince, IsTabledWith, is_waiting_for_request}, Worked.asked_log};
+ghost use Rattle.laws_device.specs.Worked.{client_flow, client_host};
 ghost use Rattle.vs_proxy_parts.specs.State.{Handshake};
 ghost use Rattle.vs_ring_port.specs.declared.device_ring.Next.TheVariants as next;
 ghost use Rattle.vs_outside.specs.declared.host_net.StreamState.TheVariants as stream;

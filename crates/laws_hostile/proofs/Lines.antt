@@ -8,7 +8,7 @@ use Rattle.vs_limits.specs.declared.TheConstants.{GUEST_CID_MIN, GUEST_CID_MAX}
 use Rattle.vs_outside.specs.{HostProgram.{after_client, after_host_write, allowed, client_stream, closed, ended, host_write_answer, with_bytes}, Host.{HostContents, Stream}}
 use Rattle.vs_outside.specs.{Host.{stream_at, waits, with_stream}, HostBytes.{after_line, read_after_ok, wrote_after_connect}, declared.mem_stream.HostWritten.HostWritten}
 use Rattle.vs_page.specs.Fair.{IsPrefixOf}
-use Rattle.laws_device.proofs.Carried.Lines.{after_front, after_longer, ok_front}
+use Rattle.laws_streams.proofs.Lines.{after_front, after_longer, ok_front}
 use Rattle.vs_ring_plain.specs.Device.{DeviceState}
 use Rattle.vs_device_parts.specs.Calls.{DeviceTree}
 use Rattle.vs_hostile.specs.Run.{Done, GuestState, HasMemory, HasRings, HasTurned, HostileState, Nothing, Said, beginning, hostile_does, line_in, outside_does, WasReset, over}

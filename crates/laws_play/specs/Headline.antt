@@ -8,7 +8,8 @@ use Rattle.vs_page.specs.{Log.{Device, Driver, HasGotAll, Log, Role, history_of}
 use Rattle.vs_page.specs.Fair.{payload_put}
 use Rattle.vs_driver_parts.specs.{Connections.flow_of, State.DriverEntry}
 use Rattle.vs_device_parts.specs.State.{DeviceEntry, counters_of}
-use Rattle.laws_device.specs.{Dropped.dropped_in, Streams.{has_open_stream, is_waiting_for_request}, Carried.Streamed.{connection_of, gives, line_for}}
+use Rattle.laws_streams.specs.Streamed.{connection_of, gives, line_for}
+use Rattle.laws_device.specs.{Dropped.dropped_in, Streams.{has_open_stream, is_waiting_for_request}}
 use Rattle.laws_tables.specs.{Ends.{flows_of, is_among, replied}, Drains.Drains}
 use Rattle.vs_outside.specs.{HostBytes.{connection_at, host_read, host_wrote, read_after_ok, wrote_after_connect}, Host.{Stream, stream_at}}
 use Rattle.vs_script.specs.{Data.Content, Play.Event}

@@ -1,8 +1,7 @@
 -- A proxy in order: its turn and its reset may be made, and what each keeps, from the conversation that it ran.
 use Rattle.std.proofs.lemmas.Grind.{common_steps}
-use Rattle.laws_device.{specs.{Named.{Split.CanReach, Streams.FindsStreams}, Honest.IsFresh}, proofs.Named.Conditions.may_where}
-use Rattle.laws_device.proofs.{Named.{Conditions.quiet_can, Keeping.{keeps_may, keeps_end as streams_end}}, Carrying.{ring_and_host, ring_only}, Keeping.keeps_end}
-use Rattle.laws_device.proofs.{Keeping.keeps_put}
+use Rattle.laws_walks.{specs.Named.{Split.CanReach, Streams.FindsStreams}, proofs.Named.{Conditions.{may_where, quiet_can}, Keeping.{keeps_may, keeps_end as streams_end}}}
+use Rattle.laws_device.{specs.Honest.IsFresh, proofs.{Carrying.{ring_and_host, ring_only}, Keeping.{keeps_end, keeps_put}}}
 use Rattle.std.{proofs.Common.{[], false, Bool, ℕ, ◌<◌, ◌≤◌, ◌^◌, List, Result, ◌≡◌, arith}, specs.Option.ForSome}
 use Rattle.vs_ring_port.specs.declared.failure.Failure.{Failure}
 use Rattle.vs_device_parts.specs.{Calls.{Allows, Situation}, Playing.{CanMake, MayRun, Runs}}

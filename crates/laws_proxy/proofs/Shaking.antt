@@ -1,11 +1,11 @@
 -- Handshakes make no call on the ring. A whole line opens a connection under the next host port.
 use Rattle.vs_ring_port.specs.EndLog.{EndLog}
-use Rattle.laws_device.proofs.{Seats.{AgreesBy, Carried}, Walk.Turning.{AfterAccept, AfterByte, IsOn, Shakes, keeps_accept_one, keeps_read_byte, keeps_tick_handshake}}
-use Rattle.laws_device.proofs.{Keeping.{Goes, Keeps, asking, keeps_weaker}, Carrying.{Fact, fact_called, fact_goes, IsHeldBy, IsToldBy, StreamedOver, With, streams_call}}
-use Rattle.laws_device.proofs.{Turning.label_keeps, Ringing.tells_weaker, Carried.{HostCalls.{accepted_host, some_seen}, Hands.{ends_by, no_line, without_after}}}
-use Rattle.laws_device.proofs.Carried.{Hands.without_none, Opens.{closed_over, hand_of, label_over, line_left, line_more, line_now, line_over, one_byte}, Changing.{called_host, goes_on}}
-use Rattle.laws_device.{proofs.{Carried.Lines.{line_ends, line_whole}, Named.Tables.{some_after, some_from}}, specs.Carried.Streamed.{Ports, ports_of, IsStreamed, Seen, has_line}}
-use Rattle.laws_device.{specs.Carried.Streamed.{AreShakenBut, look, reading}, proofs.Carried.{Opens.dropped_host, Streamed.unfresh}}
+use Rattle.laws_walks.proofs.{Turning.{AfterAccept, AfterByte, IsOn, Shakes, keeps_accept_one, keeps_read_byte, keeps_tick_handshake}, Named.Tables.{some_after, some_from}}
+use Rattle.laws_streams.proofs.{HostCalls.{accepted_host, some_seen}, Hands.{ends_by, no_line, without_after, without_none}, Opens.{closed_over, hand_of, label_over, line_left}}
+use Rattle.laws_streams.proofs.{Opens.{line_more, line_now, line_over, one_byte, dropped_host}, Changing.{called_host, goes_on}, Lines.{line_ends, line_whole}, Streamed.unfresh}
+use Rattle.laws_streams.specs.Streamed.{Ports, ports_of, IsStreamed, Seen, has_line, AreShakenBut, look, reading}
+use Rattle.laws_device.proofs.{Seats.{AgreesBy, Carried}, Keeping.{Goes, Keeps, asking, keeps_weaker}, Carrying.{Fact, fact_called, fact_goes, IsHeldBy, IsToldBy, StreamedOver}}
+use Rattle.laws_device.proofs.{Carrying.{With, streams_call, faulted}, Turning.label_keeps, Ringing.tells_weaker}
 use Rattle.vs_proxy_parts.specs.{Handshakes.{next_after, next_flow, accept_one, read_byte, tick_handshake, with_line, without_stream}, State.{Handshake, Turning}}
 use Rattle.vs_flow.{proofs.Tables.accepted, specs.{Table.{refusal, Table}, declared.{flow.Flow.Flow, table.TableFault.TableFault}}}
 use Rattle.std.{proofs.Common.{◌≡◌, ℕ, ◌≤◌, Bool, true, false, List, ◌++◌, Some, None, sym, ap, subst, ◌≢◌, ◌∙◌, ◌∷◌, []}, specs.{List.All, Option.ForSome}}
@@ -17,7 +17,6 @@ use Rattle.vs_uds.{proofs.Decided.port_fits, specs.ConnectLine.connect_step}
 use Rattle.vs_device_parts.specs.{Calls.{Accept, Allows, CloseStream, HostMoves, IsReadOf, Label, ReadStream, Situation}, Connections.with_client, State.DeviceState}
 use Rattle.vs_device_parts.specs.State.{DeviceConnection}
 use Rattle.laws_proxy.proofs.Ports.{IsTaken, above_then, next_taken}
-use Rattle.laws_device.proofs.Carrying.{faulted}
 use Rattle.vs_outside.specs.declared.host_net.Accepted.TheVariants as accepted
 use Rattle.vs_outside.specs.declared.host_net.StreamRead.TheVariants as read
 use Rattle.vs_uds.specs.declared.scan.Step.TheVariants as step

@@ -1,18 +1,17 @@
 -- A turn, stage by stage, and a reset.
-use Rattle.laws_device.specs.Carried.Streamed.{ports_of}
+use Rattle.laws_walks.proofs.Turning.{KeptBy, keeps_turn_by}
+use Rattle.laws_streams.{specs.Streamed.ports_of, proofs.Opens.first_dropped}
+use Rattle.laws_device.proofs.{Carrying.{Fact, StreamedOver, With, fact_called, held_with, streams_call, with_ring, with_streams, ring_only, whole, ring_and_host}, Deciding.going}
+use Rattle.laws_device.proofs.{Deciding.going_from, Seats.{seat, Carried}, Turning.{new_with, pay_keeps, pump_keeps, reset_keeps, tick_keeps}, Keeping.{Keeps, keeps_end}}
+use Rattle.laws_device.{proofs.{Keeping.{keeps_then, asking, keeps_weaker}, Filling.fill_keeps, Transmitting.take_keeps}, specs.Honest.{StaysPast, IsFresh}}
 use Rattle.std.proofs.Common.{Bool, ℕ, ◌<◌, ◌^◌, false, List, [], ◌∷◌, map, Result, Ok, Err, ◌≤◌}
 use Rattle.vs_contents.specs.CallTree.{Done, for_each}
 use Rattle.vs_limits.specs.declared.TheConstants.{ASSIGNED_FIRST}
 use Rattle.vs_ring_port.specs.{Contents.RingContents, declared.failure.Failure.Failure}
 use Rattle.vs_device_parts.specs.{Receiving.{fill_rx_of, pay_event_of}, Calls.{DeviceTree, Situation}, State.DeviceState, Streams.{pump_of, tick_of}, Transmitting.take_tx_of}
 use Rattle.vs_device_parts.specs.Turns.{reset_of}
-use Rattle.laws_device.proofs.Carrying.{Fact, StreamedOver, With, fact_called, held_with, streams_call, with_ring, with_streams, ring_only, whole, ring_and_host}
 use Rattle.vs_flow.specs.Connection.{Connection}
 use Rattle.vs_device_parts.specs.Playing.{Runs}
-use Rattle.laws_device.proofs.{Deciding.{going, going_from}, Seats.seat}
-use Rattle.laws_device.specs.Honest.{StaysPast}
-use Rattle.laws_device.proofs.{Turning.{new_with, pay_keeps, pump_keeps, reset_keeps, tick_keeps}, Keeping.{Keeps, keeps_end, keeps_then, asking, keeps_weaker}, Filling.fill_keeps}
-use Rattle.laws_device.{proofs.{Transmitting.take_keeps, Seats.Carried, Walk.Turning.{KeptBy, keeps_turn_by}, Carried.Opens.first_dropped}, specs.Honest.IsFresh}
 use Rattle.vs_proxy_parts.specs.{Turns.{close_handshake, new_proxy_at, proxy_reset_of, reset_with, turn_of}, State.{Handshake, ProxyState, with_device}, declared.answers.Turn.Turn}
 use Rattle.vs_proxy_parts.specs.Handshakes.{streams_of}
 use Rattle.laws_proxy.{specs.Honest.{IsProxyWith, IsProxyStreamedSince}, proofs.Shaking.{At, shaking}}

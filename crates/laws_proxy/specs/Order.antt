@@ -1,7 +1,7 @@
 -- A proxy with its ring and its host: what holds before and after each of its calls.
 use Rattle.std.specs.Prelude.{ℕ}
 use Rattle.vs_device_parts.specs.Calls.{Situation}
-use Rattle.laws_device.specs.Named.Streams.{FindsStreams}
+use Rattle.laws_walks.specs.Named.Streams.{FindsStreams}
 use Rattle.vs_proxy_parts.specs.{Handshakes.streams_of, State.ProxyState}
 use Rattle.laws_proxy.specs.Honest.{IsProxyWith}
 

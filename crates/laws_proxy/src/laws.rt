@@ -4,7 +4,8 @@ ghost use Rattle.std.specs.{Option.ForSome, Prelude.{◌≡◌, ◌<◌, ◌≤�
 ghost use Rattle.vs_limits.specs.declared.TheConstants.{ASSIGNED_FIRST};
 ghost use Rattle.vs_ring_port.specs.{Contents.RingContents, declared.failure.Failure.Failure};
 ghost use Rattle.vs_device_parts.specs.{Calls.Situation, Playing.{MayRun, Runs}};
-ghost use Rattle.laws_device.specs.{Named.Streams.FindsStreams, Dropped.IsCountedWith, Honest.{IsFresh, StaysPast}, Streams.IsTabledWith};
+ghost use Rattle.laws_walks.specs.Named.Streams.{FindsStreams};
+ghost use Rattle.laws_device.specs.{Dropped.IsCountedWith, Honest.{IsFresh, StaysPast}, Streams.IsTabledWith};
 ghost use Rattle.vs_flow.specs.Connection.{Connection};
 ghost use Rattle.vs_proxy_parts.specs.{Handshakes.streams_of, State.ProxyState, Turns.{new_proxy_at, proxy_reset_of, turn_of}, declared.answers.Turn.Turn};
 ghost use Rattle.laws_proxy.specs.{Honest.{IsProxyStreamedSince, IsProxyWith}, Order.IsInOrder, Resets.IsEmptied};

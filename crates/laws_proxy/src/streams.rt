@@ -4,7 +4,7 @@ ghost use Rattle.std.specs.Prelude.{ℕ, List, Result};
 ghost use Rattle.vs_outside.specs.Host.{HostContents};
 ghost use Rattle.vs_ring_port.specs.declared.failure.Failure.{Failure};
 ghost use Rattle.vs_device_parts.specs.{Calls.Situation, Playing.{MayRun, Runs}};
-ghost use Rattle.laws_device.specs.Named.{Split.MayPut, Streams.{FindsStreams, HasStreams}};
+ghost use Rattle.laws_walks.specs.Named.{Split.MayPut, Streams.{FindsStreams, HasStreams}};
 ghost use Rattle.vs_proxy_parts.specs.{Handshakes.streams_of, State.ProxyState, Turns.{new_proxy_at, proxy_reset_of, turn_of}, declared.answers.Turn.Turn};
 
 /// Where the streams of the handshakes are open, all different, and the device has its streams beside them, a transport reset may be made, and a

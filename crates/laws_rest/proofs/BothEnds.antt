@@ -1,5 +1,6 @@
 -- Bytes of both ends: what each put came first at the other, and the streams are of the same connections.
-use Rattle.laws_device.specs.{Carried.Streamed.{lasting, ports_of, Ports, IsStreamed}, Streams.AreStreamedWith}
+use Rattle.laws_streams.specs.Streamed.{lasting, ports_of, Ports, IsStreamed}
+use Rattle.laws_device.specs.Streams.{AreStreamedWith}
 use Rattle.std.proofs.Common.{List, ap, false, subst, sym, ℕ, ◌∙◌, ◌≡◌, ◌≤◌}
 use Rattle.vs_flow.specs.{Connection.{Connection}, Flow.host_asks, Table.Table}
 use Rattle.laws_history.{specs.{declared.packet.Packet.Packet, History.{Side, gots, peer, puts}}}

@@ -8,7 +8,7 @@ use Rattle.vs_ring_port.specs.declared.queue.Queue.TheVariants.{Rx, Tx}
 use Rattle.vs_device_parts.specs.{Calls.{Allows, Answer, Call, DeviceTree, IsFitChain, Ring, Situation}, Playing.Runs}
 use Rattle.vs_device_parts.specs.State.{DeviceState}
 use Rattle.vs_proxy_parts.specs.{State.ProxyState, declared.answers.Turn.Turn, Turns.turn_of}
-use Rattle.laws_device.proofs.Walk.{Fields.{AfterTx, Calls, Fields, TxCalls, fields_turn}, Keeping.{Asking, Keeps}}
+use Rattle.laws_walks.proofs.{Fields.{AfterTx, Calls, Fields, TxCalls, fields_turn}, Keeping.{Asking, Keeps}}
 use Rattle.laws_rest.specs.{Calm.{OwesNoEvent, resets_in}}
 use Rattle.vs_ring_port.specs.declared.device_ring.Next.TheVariants as next
 

@@ -1,6 +1,6 @@
 -- What the host wrote and read of a connection, against the two logs.
-use Rattle.laws_device.specs.Carried.Streamed.{Ports, IsLabelled, IsStreamed, Seen, count_in, heard_at, line_for, look, seen}
-use Rattle.laws_device.proofs.Carried.{Hosts.{stream_is, there}, Lines.{after_front, ok_front}}
+use Rattle.laws_streams.{specs.Streamed.{Ports, IsLabelled, IsStreamed, Seen, count_in, heard_at, line_for, look, seen}, proofs.{Hosts.{stream_is, there}, Lines.after_front}}
+use Rattle.laws_streams.proofs.Lines.{ok_front}
 use Rattle.std.proofs.Common.{◌≡◌, ℕ, ◌-◌, ◌≤◌, Bool, true, false, cond, List, [], ◌++◌, codes, decimal, slice_get, Option, Some, None, refl, sym, ap, subst, ◌∙◌, arith}
 use Rattle.std.{proofs.{Common.option_and_then, lemmas.Option.slice_get_within}, specs.Option.{option_map_or}}
 use Rattle.vs_flow.specs.{Connection.{Connection}, Flow.host_asks, Table.Table}

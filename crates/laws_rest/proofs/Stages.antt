@@ -13,7 +13,8 @@ use Rattle.vs_device_parts.specs.{Calls.{Allows, CloseStream, DeviceTree, ReadSt
 use Rattle.vs_device_parts.specs.{Connections.with_fault, Receiving.{Filling, after_paying, fill_rx_of, filled_of, hold, holding, may_read, put_on, put_owed, put_packet}}
 use Rattle.vs_device_parts.specs.Receiving.{put_reply, put_reply_of, read_answered, read_room, read_stream, read_with_chain, reply_header, round_from, serve_slot}
 use Rattle.vs_device_parts.specs.{Playing.Runs, State.{DeviceConnection, DeviceEntry, DeviceState}, Steps.filling, Streams.closing, declared.answers.Filled.Filled}
-use Rattle.laws_device.{specs.{Named.Waiting.filling_of, Honest.{end_in, ends_of_state}}, proofs.Named.Stopping.{is_stage, over_stops}}
+use Rattle.laws_walks.{specs.Named.Waiting.filling_of, proofs.Named.Stopping.{is_stage, over_stops}}
+use Rattle.laws_device.specs.Honest.{end_in, ends_of_state}
 use Rattle.laws_rest.{specs.Rest.OwesNothing, proofs.{Owing.{all_owe_none, end_under, listed, same_slots, same_under}, Quiet.{Any, NoReplies, NoneAt, OwesNone, Relation, Same}}}
 use Rattle.laws_rest.proofs.Quiet.{Served, Serves, Sight, Steps, Touches, all_served, ends_any, ends_then, in_list, is_over, more, none_at, one_then, quiet_each, quiet_while}
 use Rattle.laws_rest.proofs.Quiet.{serves, some_at, still, touches_none}

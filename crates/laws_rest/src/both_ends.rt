@@ -9,7 +9,8 @@ ghost use Rattle.laws_tables.specs.Both.{Both, at};
 ghost use Rattle.vs_driver_parts.specs.{Held.HeldSlots, State.DriverState};
 ghost use Rattle.laws_driver.specs.Carried.{Calls.{Journal, received_by}, Senders.{IsRightJournal, IsRightWith, sent_to}};
 ghost use Rattle.vs_device_parts.specs.{Calls.Situation, State.DeviceConnection};
-ghost use Rattle.laws_device.specs.{Streams.AreStreamedWith, Carried.Streamed.{IsStreamed, Ports}};
+ghost use Rattle.laws_streams.specs.Streamed.{IsStreamed, Ports};
+ghost use Rattle.laws_device.specs.Streams.{AreStreamedWith};
 ghost use Rattle.vs_proxy_parts.specs.State.{Handshake, ProxyState};
 ghost use Rattle.laws_rest.specs.Bytes.{AreTied, AreTold, BothEnds, CarryBytes};
 

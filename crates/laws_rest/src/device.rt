@@ -5,7 +5,8 @@ ghost use Rattle.vs_contents.specs.Contents.{Relates};
 ghost use Rattle.vs_flow.specs.Table.{IsTable};
 ghost use Rattle.vs_ring_port.specs.{Known.StopsAt, declared.queue.Queue.TheVariants.Rx};
 ghost use Rattle.vs_device_parts.specs.{Calls.Situation, Playing.Runs, Receiving.{Filling, fill_rx_of}, State.DeviceState, declared.answers.Filled.Filled};
-ghost use Rattle.laws_device.specs.{Named.Waiting.filling_of, Honest.ends_of_state};
+ghost use Rattle.laws_walks.specs.Named.Waiting.{filling_of};
+ghost use Rattle.laws_device.specs.Honest.{ends_of_state};
 ghost use Rattle.vs_proxy_parts.specs.{State.ProxyState, Turns.turn_of, declared.answers.Turn.Turn};
 ghost use Rattle.laws_rest.specs.{Calm.{OwesNoEvent, resets_in}, Rest.OwesNothing};
 

@@ -9,13 +9,11 @@ use Rattle.vs_flow.proofs.Entries.{found_passes}
 use Rattle.vs_page.specs.Log.{Log}
 use Rattle.vs_device_parts.specs.State.{DeviceConnection}
 use Rattle.vs_proxy_parts.specs.State.{Handshake, ProxyState}
-use Rattle.laws_device.specs.Carried.Streamed.{IsShaking, IsStreamed, Ports, Seen, connection_in, look, reading, seen}
-use Rattle.laws_device.proofs.Carried.Hosts.{none_labelled, there}
+use Rattle.laws_streams.{specs.Streamed.{IsShaking, IsStreamed, Ports, Seen, connection_in, look, reading, seen, lasting, ports_of}, proofs.Hosts.{none_labelled, there}}
 use Rattle.vs_limits.specs.declared.TheConstants.{FIRST_CID}
 use Rattle.vs_ring_shared.specs.Sights.{DeviceSight, Sight, device_contents}
 use Rattle.vs_driver_parts.specs.State.{DriverState}
 use Rattle.vs_device_parts.specs.Playing.{situation}
-use Rattle.laws_device.specs.Carried.Streamed.{lasting, ports_of}
 use Rattle.laws_proxy.specs.Honest.{IsProxyStreamedSince}
 use Rattle.laws_settled.specs.Settled.{IsSettled}
 use Rattle.laws_run.proofs.Wrote.{streamed_since}

@@ -16,7 +16,8 @@ use Rattle.vs_device_parts.specs.{Playing.situation, State.DeviceEntry, Turns.ta
 use Rattle.vs_proxy_parts.specs.State.{ProxyState}
 use Rattle.laws_tables.{specs.{Ends.{ends_of, flows_of, is_among}, Drains.{receives, receives_in}}, proofs.Slots.{found_by, one_end}}
 use Rattle.laws_driver.{specs.{Honest.{IsFitEntry, end_in as driver_end, slots_of}, Carried.{Calls.{GuestCall, Journal, received_by, account_of}, Received.ReceivesOn}}, proofs.Carried.Receiving.keeps_receiving}
-use Rattle.laws_device.specs.{Honest.end_in as device_end, Streams.is_open_in, Carried.Streamed.{IsStreamed, connection_of, lasting, ports_of}}
+use Rattle.laws_streams.specs.Streamed.{IsStreamed, connection_of, lasting, ports_of}
+use Rattle.laws_device.specs.{Honest.end_in as device_end, Streams.is_open_in}
 use Rattle.laws_proxy.specs.Honest.{IsProxyStreamed}
 use Rattle.laws_rest.{specs.Rest.{ArePaired, over_half}, proofs.{Quiet.in_list, Waiting.{credit_there, unread_there}}}
 use Rattle.vs_credit.specs.Credit.{free_of, unread_of}

@@ -16,7 +16,8 @@ use Rattle.vs_device_parts.specs.{Calls.{Allows, Answer, CloseStream, DeviceTree
 use Rattle.vs_device_parts.specs.{Connections.{route_to_guest, with_connection, with_fault}, Playing.Runs, Receiving.{Filling, after_paying, hold, may_read, put_on}}
 use Rattle.vs_device_parts.specs.Receiving.{put_owed, put_packet, put_reply, put_reply_of, read_answered, read_room, read_stream, read_with_chain, reply_header, round_from}
 use Rattle.vs_device_parts.{specs.{Receiving.{serve_slot, written}, State.{DeviceConnection, DeviceEntry, DeviceState}, Steps.filling, Streams.closing}, proofs.Under.has_slot}
-use Rattle.laws_device.{specs.{Named.Waiting.filling_of, Honest.end_in}, proofs.Walk.Keeping.{Asking, Keeps, keeps_then, keeps_weaker}}
+use Rattle.laws_walks.{specs.Named.Waiting.filling_of, proofs.Keeping.{Asking, Keeps, keeps_then, keeps_weaker}}
+use Rattle.laws_device.specs.Honest.{end_in}
 use Rattle.laws_rest.proofs.{Owing.{listed, same_slots}, Quiet.in_list, Stages.in_round}
 use Rattle.laws_run.specs.Dry.{IsDry, IsDryAt, IsFull, IsFullAt, IsTaken, IsTakenAt, IsToldDry, IsToldFull, IsToldTaken, reads_of, reads_under, writes_of, writes_under}
 use Rattle.vs_limits.specs.declared.TheConstants.{OWED_MAX}

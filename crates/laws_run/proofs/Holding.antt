@@ -18,7 +18,8 @@ use Rattle.vs_device_parts.specs.{Playing.situation, State.counters_of, Turns.ta
 use Rattle.vs_proxy_parts.specs.State.{ProxyState}
 use Rattle.laws_tables.{specs.Drains.is_same, proofs.Logs.same_connection}
 use Rattle.laws_driver.specs.{Honest.slots_of, Carried.{Calls.{GuestCall, Journal, account_of}, Received.ReceivedOn}}
-use Rattle.laws_device.{specs.{Streams.is_open_in, Carried.Streamed.{lasting, ports_of, seen as seen_in}}, proofs.Carried.Hosts.label_there}
+use Rattle.laws_streams.{specs.Streamed.{lasting, ports_of, seen as seen_in}, proofs.Hosts.label_there}
+use Rattle.laws_device.specs.Streams.{is_open_in}
 use Rattle.laws_rest.proofs.Hosts.{stream_seen}
 use Rattle.laws_proxy.specs.Honest.{IsProxyStreamed}
 use Rattle.laws_settled.specs.Settled.{IsSettled, IsSteady}

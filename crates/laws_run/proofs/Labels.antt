@@ -14,8 +14,7 @@ use Rattle.vs_page.specs.{Fair.number_of, Log.{Device, Log, history_of}}
 use Rattle.vs_device_parts.specs.State.{DeviceConnection}
 use Rattle.vs_proxy_parts.specs.State.{Handshake}
 use Rattle.laws_tables.specs.Ends.{is_among}
-use Rattle.laws_device.specs.Carried.Streamed.{CountMatches, IsStreamed, Ports, Seen, asks_streams, count_in, heard_at, is_heard, serves}
-use Rattle.laws_device.proofs.Carried.Hosts.{stream_is, there}
+use Rattle.laws_streams.{specs.Streamed.{CountMatches, IsStreamed, Ports, Seen, asks_streams, count_in, heard_at, is_heard, serves}, proofs.Hosts.{stream_is, there}}
 use Rattle.laws_apps.proofs.Placed.{or_second}
 use Rattle.laws_run.specs.Labels.{HasStream}
 use Rattle.vs_header.specs.declared.Kind.TheVariants as kind

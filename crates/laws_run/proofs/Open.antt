@@ -13,8 +13,9 @@ use Rattle.vs_outside.specs.{Host.{HostContents, Stream, stream_at}, HostBytes.s
 use Rattle.vs_page.{specs.Log.Log, proofs.Flows.{same_is, same_self}}
 use Rattle.vs_device_parts.specs.State.{DeviceConnection, DeviceEntry}
 use Rattle.vs_proxy_parts.specs.State.{Handshake}
-use Rattle.laws_device.specs.{Honest.end_in, Streams.{is_open_in, is_open_on}, Carried.Streamed.{IsJoined, IsStreamed, Seen, connection_in, connection_of, count_in}}
-use Rattle.laws_device.{specs.Carried.Streamed.{Ports, look, seen}, proofs.{Waiting.{open_among, open_of}, Carried.{Closing.{is_under, named}, Hosts.{label_here, stream_is}}}}
+use Rattle.laws_streams.{specs.Streamed.{IsJoined, IsStreamed, Seen, connection_in, connection_of, count_in, Ports, look, seen}, proofs.Closing.{is_under, named}}
+use Rattle.laws_streams.proofs.Hosts.{label_here, stream_is}
+use Rattle.laws_device.{specs.{Honest.end_in, Streams.{is_open_in, is_open_on}}, proofs.Waiting.{open_among, open_of}}
 use Rattle.laws_rest.proofs.Hosts.{stream_seen}
 use Rattle.laws_run.specs.{Complete.{open_label, open_labels}, Dry.{OfOpen, stream_open}}
 use Rattle.vs_outside.specs.declared.host_net.StreamState.TheVariants as state

@@ -11,7 +11,8 @@ use Rattle.vs_device_parts.specs.{Calls.{Allows, CloseStream, DeviceTree, HostMo
 use Rattle.vs_device_parts.specs.{Connections.{cut_off, with_connection, with_fault}, Streams.{Writing, closing, is_written_out, pump_of, pump_slot, shut_write, to_write}}
 use Rattle.vs_device_parts.{specs.{Streams.{write_answered, write_pending}, State.{DeviceConnection, DeviceEntry, DeviceState}}, proofs.Under.has_slot}
 use Rattle.vs_proxy_parts.specs.{State.ProxyState, Turns.turn_of, declared.answers.{Turn.Turn, Turned.Turned}}
-use Rattle.laws_device.{specs.Honest.end_in, proofs.Walk.Keeping.{Keeps, keeps_then, keeps_weaker}}
+use Rattle.laws_walks.proofs.Keeping.{Keeps, keeps_then, keeps_weaker}
+use Rattle.laws_device.specs.Honest.{end_in}
 use Rattle.laws_rest.proofs.{Owing.{listed, same_slots}, Quiet.in_list}
 use Rattle.laws_settled.{specs.Settled.LacksPages, proofs.Quieting.{LastFill, fill_lacks, last_fill}}
 use Rattle.laws_run.specs.Dry.{AreIdle, IsDry, IsDryAt, IsFull, IsFullAt, IsTaken, IsTakenAt, IsToldFull, writes_of, writes_under}

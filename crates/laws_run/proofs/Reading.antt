@@ -7,15 +7,15 @@ use Rattle.vs_ring_port.specs.declared.{device_ring.{Chain.Chain, Next.Next}}
 use Rattle.vs_limits.specs.declared.TheConstants.{HANDSHAKES}
 use Rattle.vs_device_parts.specs.{Calls.Situation, Playing.Runs, Receiving.written, State.DeviceState}
 use Rattle.vs_proxy_parts.specs.{State.{Handshake, ProxyState, Turning}, Turns.{fill_stage, pump_stage, turn_of, unless_failed}, declared.answers.{Turn.Turn, Turned.Turned}}
-use Rattle.laws_device.specs.Carried.Streamed.{HasHand}
-use Rattle.laws_device.proofs.Walk.{Fields.{AfterEventPage, Calls, Fields, after_rx, faulted}, Keeping.Keeps, Serving.{keeps_fill_rx, keeps_pump}, Turning.{Between, Turns, keeps_fill_stage}}
-use Rattle.laws_device.proofs.Walk.Turning.{keeps_pump_stage, keeps_unless}
+use Rattle.laws_walks.proofs.{Fields.{AfterEventPage, Calls, Fields, after_rx, faulted}, Keeping.Keeps, Serving.{keeps_fill_rx, keeps_pump}, Turning.{Between, Turns}}
+use Rattle.laws_walks.proofs.Turning.{keeps_fill_stage, keeps_pump_stage, keeps_unless}
+use Rattle.laws_streams.specs.Streamed.{HasHand}
 use Rattle.laws_settled.{specs.Settled.LacksPages, proofs.Quieting.{LastLines, fill_lacks, last_lines}}
 use Rattle.laws_run.specs.Dry.{AreLinesIdle, IsToldDry, IsToldTaken}
 use Rattle.laws_run.proofs.{Drying.{Calm, allowed, calm_both, keeps_run, stage_dry}, Pumping.stage_calm, Shaking.{Shakes, some_fault, stage_shakes}}
 use Rattle.vs_ring_port.specs.declared.device_ring.Next.TheVariants as next
 use Rattle.vs_proxy_parts.specs.declared.answers.Turn.TheVariants as turn
-use Rattle.laws_device.proofs.Walk.Fields as walk
+use Rattle.laws_walks.proofs.Fields as walk
 
 -- Where no fault is counted at the end of a stage, none was before it.
 module _ (first : ℕ) where

@@ -13,7 +13,8 @@ use Rattle.vs_device_parts.specs.{Calls.{Accept, Allows, DeviceTree, HostMoves, 
 use Rattle.vs_device_parts.specs.Turns.{open_of}
 use Rattle.vs_proxy_parts.specs.Handshakes.{accept_answered, accept_one, byte_read, dropping, handshake_on, host_fault, line_decided, next_flow, opening, read_byte, read_line, shake_hands, streams_of, with_line}
 use Rattle.vs_proxy_parts.specs.State.{Handshake, Turning}
-use Rattle.laws_device.{specs.Carried.Streamed.HasHand, proofs.{Carried.Opens.one_byte, Walk.Keeping.{Keeps, keeps_if, keeps_some, keeps_then, keeps_weaker}}}
+use Rattle.laws_walks.proofs.Keeping.{Keeps, keeps_if, keeps_some, keeps_then, keeps_weaker}
+use Rattle.laws_streams.{specs.Streamed.HasHand, proofs.Opens.one_byte}
 use Rattle.laws_run.{specs.Dry.{IsTakenAt, IsToldDry, IsToldTaken}, proofs.Drying.{Calm, allowed, calm_both, calm_read, calm_same, keeps_run, told_again}}
 use Rattle.vs_outside.specs.declared.host_net.Accepted.TheVariants as accepted
 use Rattle.vs_outside.specs.declared.host_net.StreamRead.TheVariants as read

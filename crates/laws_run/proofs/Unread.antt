@@ -13,8 +13,8 @@ use Rattle.vs_page.proofs.Present.{present_got}
 use Rattle.vs_device_parts.specs.State.{DeviceConnection, DeviceEntry}
 use Rattle.vs_proxy_parts.specs.State.{Handshake}
 use Rattle.laws_tables.{specs.{Ends.{Ends, ends_of, is_among, replied, is_new_in}, Heard.heard_of, Matches.{IsLeftOn, Matches}, Steps.HasEnd}, proofs.Fair.heard_less}
-use Rattle.laws_device.{specs.Carried.Streamed.{IsJoined, IsStreamed, Ports, connection_of, count_in, gives_in, has_line, look}, proofs.Carried.{Hosts.there, Lines.{after_is_rest, ok_front}}}
-use Rattle.laws_device.proofs.Carried.Lines.{after_longer, line_ends, line_whole, rest_of}
+use Rattle.laws_streams.{specs.Streamed.{IsJoined, IsStreamed, Ports, connection_of, count_in, gives_in, has_line, look}, proofs.{Hosts.there, Lines.{after_is_rest, ok_front}}}
+use Rattle.laws_streams.proofs.Lines.{after_longer, line_ends, line_whole, rest_of}
 use Rattle.laws_rest.proofs.Hosts.{read_own}
 
 -- What an end that may send, but lacks credit.

@@ -11,7 +11,8 @@ use Rattle.vs_driver_parts.specs.State.{DriverState}
 use Rattle.vs_device_parts.specs.Playing.{situation}
 use Rattle.vs_ring_shared.specs.Sights.{DeviceSight, Sight, device_contents, device_log}
 use Rattle.vs_proxy_parts.specs.State.{ProxyState}
-use Rattle.laws_device.specs.{Streams.AreHeard, Carried.Streamed.{IsStreamed, lasting, ports_of}}
+use Rattle.laws_streams.specs.Streamed.{IsStreamed, lasting, ports_of}
+use Rattle.laws_device.specs.Streams.{AreHeard}
 use Rattle.laws_rest.proofs.{Standing.{AreKept, device_kept}, Hosts.wrote_is_put}
 use Rattle.laws_proxy.specs.Honest.{IsProxyStreamed, IsProxyStreamedSince}
 use Rattle.laws_settled.specs.Settled.{IsSettled}

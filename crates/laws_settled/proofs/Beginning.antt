@@ -11,8 +11,7 @@ use Rattle.vs_ring_port.specs.EndLog.{EndLog}
 use Rattle.vs_ring_shared.specs.Sights.{DeviceSight, Sight, device_contents, device_log}
 use Rattle.vs_driver_parts.specs.State.{DriverState}
 use Rattle.vs_device_parts.specs.{Calls.Situation, Playing.Runs, State.DeviceConnection}
-use Rattle.laws_device.specs.Carried.Streamed.{IsShaking, IsStreamed, Ports, Seen, client_waits, lasting, look, ports_of, seen, seen_as}
-use Rattle.laws_device.proofs.Carried.{Changing.no_labels, Hosts.there}
+use Rattle.laws_streams.{specs.Streamed.{IsShaking, IsStreamed, Ports, Seen, client_waits, lasting, look, ports_of, seen, seen_as}, proofs.{Changing.no_labels, Hosts.there}}
 use Rattle.laws_proxy.specs.Honest.{IsProxyStreamedSince}
 use Rattle.laws_rest.{specs.{Calm.resets_in, Rest.has_no_mark}, proofs.Standing.{AreKept, device_kept}}
 use Rattle.vs_proxy_parts.specs.{State.ProxyState, Turns.{new_proxy, turn_of}, declared.answers.Turn.Turn}

@@ -19,10 +19,10 @@ use Rattle.vs_device_parts.specs.{Connections.{after_written, cut_off, new_conne
 use Rattle.vs_device_parts.specs.Transmitting.{dial_answered, heard, keeps_flow, on_header, on_known, on_next, on_packet, on_unknown, take_tx_of}
 use Rattle.vs_proxy_parts.specs.{State.{Handshake, ProxyState}, Turns.turn_of, declared.answers.Turn.Turn}
 use Rattle.laws_tables.proofs.Changes.{without_changed}
-use Rattle.laws_device.{specs.{Honest.HoldsBytes, Walk.Seen.Seen}, proofs.{Ringing.same_self, Fits.{fewer, fits_forwarded, fits_paid, fits_sent}}}
-use Rattle.laws_device.proofs.{Named.Keeping.{asking, keeps_end}, Walk.{Keeping.{Asking, Keeps, keeps_if, keeps_some, keeps_then}, Serving.{AfterRead, AfterWrite, Closes, Fills}}}
-use Rattle.laws_device.proofs.Walk.{Serving.{IsIn, Writes, by_flow, keeps_fill_rx, keeps_leaving, keeps_pay_event, keeps_pump, keeps_tick}, Turning.{AfterAccept, AfterByte}}
-use Rattle.laws_device.proofs.Walk.Turning.{Between, Ends, Shakes, keeps_turn_by}
+use Rattle.laws_walks.{specs.Seen.Seen, proofs.{Named.Keeping.{asking, keeps_end}, Keeping.{Asking, Keeps, keeps_if, keeps_some, keeps_then}, Serving.{AfterRead, AfterWrite}}}
+use Rattle.laws_walks.proofs.{Serving.{Closes, Fills, IsIn, Writes, by_flow, keeps_fill_rx, keeps_leaving, keeps_pay_event, keeps_pump, keeps_tick}, Turning.AfterAccept}
+use Rattle.laws_walks.proofs.Turning.{AfterByte, Between, Ends, Shakes, keeps_turn_by}
+use Rattle.laws_device.{specs.Honest.HoldsBytes, proofs.{Ringing.same_self, Fits.{fewer, fits_forwarded, fits_paid, fits_sent}}}
 use Rattle.laws_rest.{proofs.Unread.{pays, writes}}
 use Rattle.laws_settled.specs.Exact.{AreExact, HoldsExactly}
 use Rattle.vs_conn.specs.declared.end.Verdict.TheVariants as verdict
@@ -33,7 +33,7 @@ use Rattle.vs_outside.specs.declared.host_net.StreamRead.TheVariants as read
 use Rattle.vs_outside.specs.declared.host_net.StreamWrite.TheVariants as write
 use Rattle.vs_ring_port.specs.declared.device_ring.Next.TheVariants as next
 use Rattle.vs_device_parts.specs.declared.answers.Taken.TheVariants as taken
-use Rattle.laws_device.proofs.Walk.Serving as serving
+use Rattle.laws_walks.proofs.Serving as serving
 
 -- CONNECTIONS
 cuts_hold : (c : DeviceConnection) → HoldsExactly c → HoldsExactly (cut_off c)

@@ -2,10 +2,10 @@
 use Rattle.std.proofs.Common.{true, false, ◌≡◌, ℕ, List, [], sym, subst}
 use Rattle.vs_ring_port.specs.Chains.{Held}
 use Rattle.vs_device_parts.specs.{Calls.Situation, Playing.Runs}
+use Rattle.laws_streams.specs.Streamed.{lasting}
 use Rattle.laws_device.proofs.{Chains.{Among, alone_so}, Keeping.keeps_end, Seats.Carried}
 use Rattle.vs_proxy_parts.specs.{State.ProxyState, Turns.turn_of, declared.answers.Turn.Turn}
 use Rattle.laws_proxy.{specs.Honest.IsProxyWith, proofs.Turning.{Proxied, turn_keeps}}
-use Rattle.laws_device.specs.Carried.Streamed.{lasting}
 use Rattle.laws_settled.{specs.Hosts.{IsHosts, IsHostsWith}, proofs.Hosting.{WithHost, step_hosts}}
 
 abbrev hosts : Carried

@@ -7,7 +7,8 @@ use Rattle.vs_flow.specs.Table.{IsTable}
 use Rattle.vs_ring_port.specs.{Known.{Known, StopsAt}, declared.{failure.Failure.Failure, queue.Queue.TheVariants.Rx}}
 use Rattle.vs_device_parts.specs.{Calls.{Allows, DeviceTree, Situation}, Playing.Runs, Receiving.{Filling, fill_rx_of, filled_of}, State.DeviceState, Streams.{Writing, pump_of}}
 use Rattle.laws_proxy.proofs.Account.Events.{turn_says}
-use Rattle.laws_device.{specs.{Named.Waiting.filling_of, Honest.ends_of_state}, proofs.Named.Stopping.{is_stage, over_lacks}}
+use Rattle.laws_walks.{specs.Named.Waiting.filling_of, proofs.Named.Stopping.{is_stage, over_lacks}}
+use Rattle.laws_device.specs.Honest.{ends_of_state}
 use Rattle.laws_rest.{specs.Rest.OwesNothing, proofs.Stages.stage_owes_none}
 use Rattle.vs_proxy_parts.specs.{State.{ProxyState, Turning, start}, Turns.{device_after, event_stage, fill_stage, filled, pump_stage, take_stage, tick_stage, turn_of, turned}}
 use Rattle.vs_proxy_parts.specs.{Turns.unless_failed, Handshakes.shake_hands, declared.answers.{Turn.Turn, Turned.Turned}}

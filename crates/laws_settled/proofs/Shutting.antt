@@ -20,8 +20,8 @@ use Rattle.vs_device_parts.specs.{Connections.stream_closed, Playing.Runs, Recei
 use Rattle.vs_device_parts.specs.Transmitting.{heard}
 use Rattle.vs_proxy_parts.specs.{State.{Handshake, ProxyState}, Turns.turn_of, declared.answers.Turn.Turn}
 use Rattle.laws_tables.proofs.Changes.{without_changed}
-use Rattle.laws_device.{specs.Walk.Seen.Seen, proofs.Walk.{Keeping.Keeps, Serving.{AfterEvent, AfterRead, AfterWrite, Closes, Fills, Writes, by_flow}, Taking.{AfterDial, Takes}}}
-use Rattle.laws_device.proofs.Walk.Turning.{AfterAccept, AfterByte, Between, Shakes, keeps_turn}
+use Rattle.laws_walks.{specs.Seen.Seen, proofs.{Keeping.Keeps, Serving.{AfterEvent, AfterRead, AfterWrite, Closes, Fills, Writes, by_flow}, Taking.{AfterDial, Takes}}}
+use Rattle.laws_walks.proofs.Turning.{AfterAccept, AfterByte, Between, Shakes, keeps_turn}
 use Rattle.laws_settled.{specs.Shut.{AreShutBy, GivesNoMore, IsClosedAt, IsEndedAt, IsShutBy}, proofs.Tallying.{allowed, runs_end}}
 use Rattle.vs_outside.specs.declared.host_net.Accepted.TheVariants as accepted
 use Rattle.vs_outside.specs.declared.host_net.Dialed.TheVariants as dialed
@@ -29,8 +29,8 @@ use Rattle.vs_outside.specs.declared.host_net.StreamRead.TheVariants as read
 use Rattle.vs_outside.specs.declared.host_net.StreamState.TheVariants as state
 use Rattle.vs_outside.specs.declared.host_net.StreamWrite.TheVariants as write
 use Rattle.vs_ring_port.specs.declared.device_ring.Next.TheVariants as next
-use Rattle.laws_device.proofs.Walk.Serving as serving
-use Rattle.laws_device.proofs.Walk.Taking as taking
+use Rattle.laws_walks.proofs.Serving as serving
+use Rattle.laws_walks.proofs.Taking as taking
 
 -- HOSTS: a stream that is closed, or gives no more, stays so.
 abbrev Stay : HostContents → HostContents → Type 0

@@ -16,14 +16,15 @@ use Rattle.vs_ring_port.specs.declared.{device_ring.{Chain.Chain, Next.Next}, qu
 use Rattle.vs_device_parts.specs.{Calls.{Allows, Answer, DeviceTree, Ring, Situation}, Connections.route_to_guest, Playing.Runs, Receiving.written, State.DeviceEntry}
 use Rattle.vs_device_parts.specs.State.{DeviceState}
 use Rattle.vs_proxy_parts.specs.{State.{Handshake, ProxyState}, declared.answers.Turn.Turn, Turns.turn_of}
-use Rattle.laws_device.proofs.{Ringing.bytes_held, Transmitting.header_is, Walk.{Keeping.{Asking, Keeps}, Serving.{AfterEvent, AfterRead, AfterWrite, Closes, Fills, Writes}}}
-use Rattle.laws_device.{proofs.Walk.{Taking.{AfterDial, Takes}, Turning.{AfterAccept, AfterByte, Between, Shakes, keeps_turn}}, specs.Walk.Seen.{Seen, seen}}
+use Rattle.laws_walks.proofs.{Keeping.{Asking, Keeps}, Serving.{AfterEvent, AfterRead, AfterWrite, Closes, Fills, Writes}, Taking.{AfterDial, Takes}, Turning.AfterAccept}
+use Rattle.laws_walks.{proofs.Turning.{AfterByte, Between, Shakes, keeps_turn}, specs.Seen.{Seen, seen}}
+use Rattle.laws_device.proofs.{Ringing.bytes_held, Transmitting.header_is}
 use Rattle.laws_settled.specs.Begun.{CountsFailed, IsKept}
 use Rattle.vs_outside.specs.declared.host_net.StreamRead.TheVariants as read
 use Rattle.vs_outside.specs.declared.host_net.StreamWrite.TheVariants as write
 use Rattle.vs_ring_port.specs.declared.device_ring.Next.TheVariants as next
-use Rattle.laws_device.proofs.Walk.Serving as serving
-use Rattle.laws_device.proofs.Walk.Taking as taking
+use Rattle.laws_walks.proofs.Serving as serving
+use Rattle.laws_walks.proofs.Taking as taking
 
 -- Of each call what ring and host allow.
 abbrev pub allowed : Asking Situation

@@ -6,7 +6,7 @@ use Rattle.vs_outside.specs.{Faults.one_more, Host.HostContents, Host.Stream, Ho
 use Rattle.vs_page.specs.{Log.Device, Log.packets_got, Open.is_dropped}
 use Rattle.vs_ring_port.specs.Contents.{RingContents}
 use Rattle.vs_device_parts.specs.Calls.{Situation}
-use Rattle.laws_device.specs.Carried.Streamed.{client_waits, seen_as}
+use Rattle.laws_streams.specs.Streamed.{client_waits, seen_as}
 use Rattle.vs_proxy_parts.specs.State.{ProxyState}
 use Rattle.laws_proxy.specs.Honest.{IsProxyStreamed, IsProxyStreamedSince}
 

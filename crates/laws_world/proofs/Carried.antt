@@ -1,8 +1,8 @@
 -- What a world that is well says of the bytes of its connections. Packets that the driver staged count as put.
 use Rattle.std.proofs.{Common.{arith, ◌≡◌, ℕ, ◌+◌, ◌≤◌, ◌==◌, ◌++◌, Bool, true, false, cond, List, [], ◌∷◌, Contains, Some, refl, sym, ap, subst, ◌∙◌}, lemmas.Grind.common_steps}
 use Rattle.std.{proofs.{lemmas.{Bool.Decides.nat_tests, List.Elements.All-contains}}, specs.Option.{option_map}}
-use Rattle.laws_device.{proofs.Carried.Hosts.{label_here, there as is_there}, specs.Carried.Streamed.{CountMatches, IsJoined, Seen, connection_in, connection_of}}
-use Rattle.laws_device.specs.Carried.Streamed.{count_in, gives, line_for, look, seen}
+use Rattle.laws_streams.{proofs.Hosts.{label_here, there as is_there}, specs.Streamed.{CountMatches, IsJoined, Seen, connection_in, connection_of, count_in, gives, line_for, look}}
+use Rattle.laws_streams.specs.Streamed.{seen}
 use Rattle.laws_rest.specs.Bytes.{BothEnds, CarryBytes}
 use Rattle.vs_device_parts.specs.State.{DeviceEntry}
 use Rattle.vs_flow.specs.{Connection.Connection, Flow.host_asks, declared.flow.Flow.Flow}

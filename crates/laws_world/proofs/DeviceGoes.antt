@@ -2,8 +2,8 @@
 use Rattle.std.proofs.Common.{true, false, ℕ, refl, subst}
 use Rattle.vs_page.specs.{Log.{Device, HasGotAll, flow_got}, declared.log.LogEntry.TheVariants.GotPacket}
 use Rattle.laws_tables.{specs.Both.{Both, IsSound, Seat}, proofs.{Fair.got_formed, Voices.{AreVoiced, voices_run}}}
-use Rattle.laws_device.specs.Carried.Streamed.{changing}
-use Rattle.laws_device.proofs.{Seats.{Carried, PutsFit}, Carried.Cids.dropped_empty}
+use Rattle.laws_streams.{specs.Streamed.changing, proofs.Cids.dropped_empty}
+use Rattle.laws_device.proofs.Seats.{Carried, PutsFit}
 use Rattle.laws_world.{proofs.Runs.{and_then, got_before, keeps_sound, log_before, step_runs}, specs.{Sides.Runs, World.first_cid}}
 
 -- The CIDs of packets stay as the two ends go on.

@@ -17,7 +17,8 @@ use Rattle.vs_ring_port.specs.declared.device_ring.Chain.{Chain}
 use Rattle.vs_ring_list.{specs.{Ends.{Ends, device_contents}, Sound.IsTied}, proofs.{Held.same_chain_is, Ties.{tied-return, tied-take}}}
 use Rattle.vs_device_parts.specs.Calls.{Accept, Call, CloseStream, DeviceTree, Dial, HostMoves, IsFitAnswer, IsReadOf, Label, ReadStream, Ring, ShutWrite, Situation, TakesWithin}
 use Rattle.vs_device_parts.specs.{Calls.WriteStream, Playing.situation}
-use Rattle.laws_device.{proofs.{Keeping.{Can, Keeps, Lets}, Seats.PutsFit, Transmitting.header_is, Carried.Short.{write_short}}, specs.Honest.is_held}
+use Rattle.laws_streams.proofs.Short.{write_short}
+use Rattle.laws_device.{proofs.{Keeping.{Can, Keeps, Lets}, Seats.PutsFit, Transmitting.header_is}, specs.Honest.is_held}
 use Rattle.laws_world.{specs.{Answers.{Around, answer_around, bytes_with}, Pages.PageHolds}, proofs.{Rings.{AreGiven, given_left}, Wire.next_fits}}
 use Rattle.vs_outside.specs.declared.host_net.Dialed.TheVariants as dialed
 use Rattle.vs_outside.specs.declared.host_net.StreamWrite.TheVariants as write

@@ -12,7 +12,7 @@ use Rattle.vs_wrap.specs.Wrap.{counted}
 use Rattle.vs_device_parts.specs.{Calls.{DeviceTree, Ring}, Receiving.written}
 use Rattle.vs_contents.specs.CallTree.{Ask, Done, played}
 use Rattle.vs_proxy_parts.specs.{State.ProxyState, Turns.{proxy_reset_of, turn_of}, declared.answers.Turn.Turn}
-use Rattle.laws_device.proofs.Walk.{Fields.{AfterEventPage, AfterTx, Calls, Fields, TxCalls, after_rx, faulted, fields_turn}, Keeping.{Asking, Keeps}, Single.reset_keeps}
+use Rattle.laws_walks.proofs.{Fields.{AfterEventPage, AfterTx, Calls, Fields, TxCalls, after_rx, faulted, fields_turn}, Keeping.{Asking, Keeps}, Single.reset_keeps}
 use Rattle.laws_world.specs.{Answers.{Around, answer_around}, Plays.{reset_line, turn_line}, World.{World, around}}
 use Rattle.vs_outside.specs.declared.host_net.Accepted.TheVariants as accepted
 use Rattle.vs_outside.specs.declared.host_net.Dialed.TheVariants as dialed

@@ -14,7 +14,8 @@ use Rattle.vs_ring_list.specs.Ends.{Ends, empty_ends}
 use Rattle.vs_driver_parts.specs.{Conversations.{DriverTree, load_cid, new_of, new_state, post_events, post_one, posts, publish_of}, State.DriverState}
 use Rattle.laws_driver.{specs.{Honest.{IsFitState, slots_of}, Resets.MarksResets, Carried.{Received.no_account, Senders.IsRightJournal}}, proofs.Calls.{made_fits, new_keeps}}
 use Rattle.laws_driver.proofs.{Carrying.nothing, Staging.Rests, Carried.Ending.none_righted}
-use Rattle.laws_device.proofs.{Seats.PutsFit, Carried.Changing.no_streams}
+use Rattle.laws_streams.proofs.Changing.{no_streams}
+use Rattle.laws_device.proofs.Seats.{PutsFit}
 use Rattle.laws_tables.specs.Both as both
 use Rattle.laws_world.specs.Events as events
 

@@ -27,16 +27,18 @@ use Rattle.laws_driver.{specs.{Honest.{IsFitState, ends_of_state, slots_of}, Res
 use Rattle.laws_driver.proofs.{Carried.Sending.puts_as, Carrying.{Carries, Fact, Holds, IsTiedBy, RestsWith}, Stepping.{Works, owed_with, publish_with, reply_with, takes_with}}
 use Rattle.laws_driver.proofs.{Keeping.{Keeps, keeps_end, keeps_weaker}, Staging.{Rests, rests_tied, Ties as DriverTies}}
 use Rattle.vs_flow.specs.{Connection.Connection, Table.Table}
-use Rattle.laws_device.{specs.{Carried.Streamed.{IsStreamed, Ports, changing, ports_of}, Honest.{is_held, IsFitState as IsFitDevice}, Dropped.IsCounted}, proofs.Carried.Changing.StreamedIf}
-use Rattle.laws_device.proofs.{Carried.{Changing.listened_host, HostCalls.{client_host, same_host}, Hosts.{counts_still, unseen}}, Carrying.{IsToldBy, StreamedOver, With}, Chains.Among, Seats.Carried}
+use Rattle.laws_walks.proofs.Fields.{fields}
+use Rattle.laws_streams.{specs.Streamed.{IsStreamed, Ports, changing, ports_of}, proofs.{Changing.{StreamedIf, listened_host}, HostCalls.{client_host, same_host}}}
+use Rattle.laws_streams.proofs.Hosts.{counts_still, unseen}
+use Rattle.laws_device.{specs.{Honest.{is_held, IsFitState as IsFitDevice}, Dropped.IsCounted}, proofs.{Carrying.{IsToldBy, StreamedOver, With}, Chains.Among, Seats.Carried}}
 use Rattle.laws_device.proofs.{Seats.PutsFit, Keeping.{keeps_then, Keeps as DeviceKeeps, keeps_weaker as device_weaker}, Turning.tick_slot_keeps, Dropping.{P, alone, calls}}
-use Rattle.laws_device.proofs.{Dropping.{keeps_both, moving, publishes, tx_calls}, Walk.Fields.fields}
+use Rattle.laws_device.proofs.Dropping.{keeps_both, moving, publishes, tx_calls}
 use Rattle.vs_limits.specs.declared.TheConstants.{GUEST_CID_MIN, GUEST_CID_MAX, ASSIGNED_FIRST}
 use Rattle.vs_ring_list.{proofs.{Held.same_queue_is, Ties.{device_got, driver_got, tied-publish}}, specs.{Ends.device_contents, Sound.IsTied}}
 use Rattle.laws_tables.proofs.Going.{stays as seat_stays}
 use Rattle.laws_proxy.proofs.{Growing.{flow_grow_proxied, flow_grow_stays}, Shaking.{Goes-on, Turns, accepts, reads_byte, ticks}, Turning.{Proxied, proxy_reset_keeps}}
-use Rattle.laws_device.proofs.Walk.Keeping as moved
-use Rattle.laws_device.proofs.Walk.Single as one
+use Rattle.laws_walks.proofs.Keeping as moved
+use Rattle.laws_walks.proofs.Single as one
 use Rattle.laws_device.proofs.Stepping as device_steps
 use Rattle.vs_ring_port.specs.declared.queue.Queue.TheVariants as q
 use Rattle.vs_header.specs.declared.Kind.TheVariants as kind

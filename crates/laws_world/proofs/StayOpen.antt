@@ -6,7 +6,7 @@ use Rattle.vs_outside.specs.{Host.{HostContents, Stream, IsOpen, stream_at, with
 use Rattle.vs_outside.specs.{HostProgram.{client_stream, with_bytes}, declared.mem_stream.HostWritten.HostWritten}
 use Rattle.vs_outside.proofs.Frames.{keeps_others, open_of, open_stream, slice_get-append, stays_open, stream_at-with_stream, stream_place}
 use Rattle.vs_device_parts.specs.State.{DeviceConnection}
-use Rattle.laws_device.specs.Named.Streams.{HasStreams}
+use Rattle.laws_walks.specs.Named.Streams.{HasStreams}
 use Rattle.vs_outside.specs.declared.mem_stream.HostWritten.TheVariants as written
 
 -- From one host to another.

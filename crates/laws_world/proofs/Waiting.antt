@@ -6,8 +6,8 @@ use Rattle.vs_device_parts.specs.State.{DeviceEntry}
 use Rattle.vs_flow.specs.declared.flow.Flow.{Flow}
 use Rattle.vs_page.specs.{Fair.number_of, Log.{Device, Log}, Open.is_open}
 use Rattle.laws_tables.{specs.Ends.{flows_of, is_among, is_new, new_flows, replied}, proofs.Tables.all_open}
-use Rattle.laws_device.{specs.{Carried.Streamed.{count_in}, Streams.{has_open_stream, is_waiting_for_request}}, proofs.Waiting.{new_on, new_open}}
-use Rattle.laws_device.proofs.Waiting.{open_among, tied_by}
+use Rattle.laws_streams.specs.Streamed.{count_in}
+use Rattle.laws_device.{specs.Streams.{has_open_stream, is_waiting_for_request}, proofs.Waiting.{new_on, new_open, open_among, tied_by}}
 use Rattle.laws_world.{specs.{Sides.device_ends, World.{World, first_cid}}, proofs.Sound.{IsWell, ports_in}}
 
 module _ {fresh : Type 0} (w : World) (well : IsWell fresh w) where

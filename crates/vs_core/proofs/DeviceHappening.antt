@@ -6,7 +6,8 @@ use Rattle.vs_outside.specs.Host.{HostContents}
 use Rattle.vs_ring_port.specs.{Chains.{Held, chains_of, same_chain, same_queue}, declared.{device_ring.Chain.Chain, failure.Failure.Failure, queue.Queue.Queue}}
 use Rattle.vs_ring_list.{specs.Ends.Ends, proofs.Held.{same_chain_is, same_queue_is}}
 use Rattle.vs_device_parts.specs.{Calls.DeviceTree, Playing.IsAmong, State.DeviceState}
-use Rattle.laws_device.specs.{Named.Streams.HasStreams, Honest.is_held}
+use Rattle.laws_walks.specs.Named.Streams.{HasStreams}
+use Rattle.laws_device.specs.Honest.{is_held}
 use Rattle.vs_proxy_parts.specs.{State.{ProxyState, Turning, start, with_device}, Handshakes.{read_byte, streams_of}, Turns.proxy_reset_of, Growing.after_flow_grow}
 use Rattle.laws_proxy.proofs.Growing.{flow_grow_stays, flow_grow_streams}
 use Rattle.laws_world.specs.Events.{DeviceGrows, Event, Moment, device_step, happens, has_failed, host_step, line_read, proxy_step, reset_made, run, is_guest_cid, unless_failed}

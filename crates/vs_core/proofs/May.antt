@@ -5,9 +5,9 @@ use Rattle.vs_ring_port.specs.{Chains.same_queue, declared.{device_ring.Chain.Ch
 use Rattle.vs_ring_list.{specs.Ends.device_contents, proofs.Held.same_queue_is}
 use Rattle.vs_device_parts.specs.{Steps.{puts_event, puts_owed, puts_payload, puts_reply, shuts_write, takes_chain, writes}, Calls.{Situation, Allows}, Playing.{CanMake, MayRun}}
 use Rattle.vs_device_parts.specs.{Playing.situation, Streams.tick_slot}
-use Rattle.laws_device.proofs.Named.{Stepping.{puts_event_keeps, shuts_at, takes_at, writes_at, puts_owed_keeps, puts_payload_keeps, puts_reply_keeps}, Conditions.may_where}
-use Rattle.laws_device.{proofs.{Named.{Conditions.quiet_can, Keeping.keeps_may, Closing.keeps_tick_slot}, Carrying.With, Keeping.keeps_put}, specs.Named.Split.CanReach}
-use Rattle.laws_device.specs.{Named.Streams.HasStreams, Honest.is_held}
+use Rattle.laws_walks.proofs.Named.{Stepping.{puts_event_keeps, shuts_at, takes_at, writes_at, puts_owed_keeps, puts_payload_keeps, puts_reply_keeps}, Conditions.may_where}
+use Rattle.laws_walks.{proofs.Named.{Conditions.quiet_can, Keeping.keeps_may, Closing.keeps_tick_slot}, specs.Named.{Split.CanReach, Streams.HasStreams}}
+use Rattle.laws_device.{proofs.{Carrying.With, Keeping.keeps_put}, specs.Honest.is_held}
 use Rattle.vs_proxy_parts.specs.{Handshakes.{read_byte, streams_of, tick_handshake}, State.start, Turns.proxy_reset_of}
 use Rattle.laws_proxy.proofs.Named.{Shaking.{FindsAll, keeps_read_byte, keeps_tick_handshake}, Turning.keeps_proxy_reset}
 use Rattle.laws_world.{proofs.Sound.{IsWell, all, carry, held_there, proxied}, specs.{Events.holds, World.{World, first_cid}}}

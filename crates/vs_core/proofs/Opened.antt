@@ -6,7 +6,7 @@ use Rattle.vs_ring_list.specs.Ends.{Ends, empty_ends}
 use Rattle.laws_tables.specs.Both.{Both}
 use Rattle.vs_driver_parts.specs.{Conversations.new_of, State.DriverState}
 use Rattle.vs_limits.specs.declared.TheConstants.{FIRST_PORT}
-use Rattle.laws_device.proofs.Named.Opening.{new_has}
+use Rattle.laws_walks.proofs.Named.Opening.{new_has}
 use Rattle.vs_proxy_parts.specs.{State.ProxyState, Turns.new_proxy}
 use Rattle.laws_proxy.proofs.Named.Lists.{none_open}
 use Rattle.vs_core.{specs.Ready.{IsDrivenAtWork, IsReady, IsServedAtWork, WorldState, shown}, proofs.Happening.{device_stays, served_rings}}

@@ -7,7 +7,8 @@ use Rattle.vs_ring_port.specs.{Chains.chains_of, EndLog.EndLog, declared.{failur
 use Rattle.vs_ring_list.specs.Ends.{Ends, device_contents, staged_of}
 use Rattle.laws_driver.specs.Staged.{IsTied}
 use Rattle.vs_driver_parts.specs.{Playing.all_flown, State.DriverState}
-use Rattle.laws_device.{specs.Named.Streams.HasStreams, proofs.Keeping.HoldsChain}
+use Rattle.laws_walks.specs.Named.Streams.{HasStreams}
+use Rattle.laws_device.proofs.Keeping.{HoldsChain}
 use Rattle.vs_device_parts.specs.{Playing.{IsAmong, IsRxChain, MayRun, Runs, situation}, State.DeviceState, Calls.{Accept, DeviceTree, Situation}, Steps.returns}
 use Rattle.vs_proxy_parts.specs.{Handshakes.{accept_answered, accept_one, read_byte, streams_of}, State.{ProxyState, Turning, start, with_device}, Turns.proxy_reset_of}
 use Rattle.vs_limits.specs.declared.TheConstants.{HANDSHAKES}

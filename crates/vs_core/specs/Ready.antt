@@ -6,7 +6,7 @@ use Rattle.vs_outside.specs.Host.{HostContents}
 use Rattle.vs_driver_parts.specs.{Playing.all_flown, State.DriverState}
 use Rattle.laws_driver.specs.{Staged.IsTied, Carried.Calls.Journal}
 use Rattle.vs_device_parts.specs.Playing.{IsAmong}
-use Rattle.laws_device.specs.Named.Streams.{HasStreams}
+use Rattle.laws_walks.specs.Named.Streams.{HasStreams}
 use Rattle.vs_proxy_parts.specs.{Handshakes.streams_of, State.ProxyState}
 use Rattle.laws_world.specs.{Events.{Event, happens, run}, World.{Beginning, World, first_cid, opening}}
 use Rattle.vs_limits.specs.declared.TheConstants.{STAGED_MAX}

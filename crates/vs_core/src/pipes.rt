@@ -8,7 +8,7 @@ ghost use Rattle.laws_history.specs.{History.puts, Packets.{has, shuts_send}};
 ghost use Rattle.vs_outside.specs.{Host.{HostContents, Stream, stream_at}, HostBytes.{connection_at, host_read, host_wrote}};
 ghost use Rattle.vs_page.specs.{Fair.{IsPrefixOf, number_of, payload_got, payload_put}, Log.{Device, Driver, history_of}};
 ghost use Rattle.laws_tables.specs.Drains.{Drains};
-ghost use Rattle.laws_device.specs.Carried.Streamed.{connection_of, gives, line_for};
+ghost use Rattle.laws_streams.specs.Streamed.{connection_of, gives, line_for};
 ghost use Rattle.vs_proxy_parts.specs.State.{Handshake};
 ghost use Rattle.laws_driver.specs.Carried.{Calls.received_by, Senders.sent_to};
 ghost use Rattle.laws_rest.specs.Bytes.{CarryBytes};

@@ -7,10 +7,12 @@ use Rattle.laws_tables.specs.Steps.{IsNextFlow}
 use Rattle.vs_page.specs.Log.{Device}
 use Rattle.vs_device_parts.specs.{Receiving.{fill_rx_of, pay_event_of}, State.DeviceState, Streams.{Writing, pump_of, tick_of}, Transmitting.take_tx_of, Turns.{open_of, reset_of}}
 use Rattle.vs_device_parts.specs.{declared.answers.{Filled.Filled, Taken.Taken}, Calls.{Allows, DeviceTree, Situation}, Playing.{CanMake, Runs, RunsOnHost, RunsOnRing, situation}}
-use Rattle.laws_device.specs.{Named.{Split.CanReach, Streams.{FindsFree, FindsStreams, HasStreams}}, Honest.{IsFitFlow, IsWith, ends_of_state, port_after}, Streams.AreStreamedSince}
-use Rattle.laws_device.proofs.Named.{Closing.keeps_tick, Conditions.quiet_can, Keeping.{Keeps, keeps_end as streams_end}, Opening.{both_found, keeps_open, keeps_reset}}
-use Rattle.laws_device.proofs.{Named.{Receiving.keeps_fill_rx, Transmitting.keeps_take_tx, Writing.keeps_pump}, Filling.fill_keeps, Keeping.keeps_end, Transmitting.take_keeps}
-use Rattle.laws_device.proofs.{Turning.{pay_keeps, pump_keeps, reset_keeps, tick_keeps, opens_plain}, Carrying.{ring_end, with_ring, ring_and_host, ring_only, streamed_end}}
+use Rattle.laws_walks.{specs.Named.{Split.CanReach, Streams.{FindsFree, FindsStreams, HasStreams}}, proofs.Named.{Closing.keeps_tick, Conditions.quiet_can, Keeping.Keeps}}
+use Rattle.laws_walks.proofs.Named.{Keeping.keeps_end as streams_end, Opening.{both_found, keeps_open, keeps_reset}, Receiving.keeps_fill_rx, Transmitting.keeps_take_tx}
+use Rattle.laws_walks.proofs.Named.Writing.{keeps_pump}
+use Rattle.laws_device.{specs.{Honest.{IsFitFlow, IsWith, ends_of_state, port_after}, Streams.AreStreamedSince}, proofs.{Filling.fill_keeps, Keeping.keeps_end}}
+use Rattle.laws_device.proofs.{Transmitting.take_keeps, Turning.{pay_keeps, pump_keeps, reset_keeps, tick_keeps, opens_plain}, Carrying.{ring_end, with_ring, ring_and_host}}
+use Rattle.laws_device.proofs.Carrying.{ring_only, streamed_end}
 use Rattle.vs_proxy_parts.specs.State.{Handshake}
 
 module _ (s : DeviceState) (a b : Situation) where

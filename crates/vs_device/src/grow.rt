@@ -6,7 +6,8 @@ ghost use Rattle.vs_outside.specs.Host.{HostContents};
 ghost use Rattle.vs_ring_port.specs.Contents.{RingContents};
 ghost use Rattle.vs_device_parts.specs.{Calls.Situation, Growing.{after_grow, grow_of, owed_in, rises}, declared.answers.Grown.TheVariants.Done};
 ghost use Rattle.vs_proxy_parts.specs.State.{Handshake};
-ghost use Rattle.laws_device.specs.{Honest.IsWith, Named.Streams.HasStreams, Streams.AreStreamedSince};
+ghost use Rattle.laws_walks.specs.Named.Streams.{HasStreams};
+ghost use Rattle.laws_device.specs.{Honest.IsWith, Streams.AreStreamedSince};
 ghost use Rattle.laws_proxy.specs.Account.{Made.Made, Told.AreAccounted};
 
 use crate::device::Device;

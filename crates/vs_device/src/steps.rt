@@ -4,7 +4,7 @@
 ghost use Rattle.std.specs.{Prelude.{◌≡◌, ◌≤◌, ℕ, List, Contains}, Option.ForSome};
 ghost use Rattle.vs_outside.specs.Host.{HostContents};
 ghost use Rattle.vs_ring_port.specs.declared.queue.Queue.TheVariants.{Event, Rx, Tx};
-ghost use Rattle.laws_device.specs.Named.Streams.{HasStreams};
+ghost use Rattle.laws_walks.specs.Named.Streams.{HasStreams};
 ghost use Rattle.vs_device_parts.specs.{Playing.{IsAmong, MayRun, MayRunOnHost, MayRunOnRing, Runs, RunsOnHost, RunsOnRing, situation}, Steps.{puts_event, puts_owed}};
 ghost use Rattle.vs_device_parts.specs.{Steps.{puts_payload, puts_reply, returns, shuts_write, takes_chain, writes}, Streams.tick_slot};
 

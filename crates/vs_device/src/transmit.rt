@@ -13,7 +13,8 @@ ghost use Rattle.vs_device_parts.specs.{Connections.{with_connection, with_reply
 ghost use Rattle.vs_device_parts.specs.{Playing.situation, State.{DeviceConnection, DeviceEntry, DeviceState}, Steps.heard_chain, Taking.{after_refusal, asks_for_stream}};
 ghost use Rattle.vs_device_parts.specs.{Taking.{is_not_for_host, known_packet}, Transmitting.{dial_answered, heard, on_known, on_next, on_packet, on_unknown, refused, take_tx_of}};
 ghost use Rattle.vs_device_parts.specs.Transmitting.{op_why, try_request, unknown_why};
-ghost use Rattle.laws_device.specs.{Named.Streams.HasStreams, Honest.IsWith};
+ghost use Rattle.laws_walks.specs.Named.Streams.{HasStreams};
+ghost use Rattle.laws_device.specs.Honest.{IsWith};
 ghost use Rattle.laws_proxy.specs.Account.{Judged.IsJudged, Made.{Made, Makes}, Told.{AreAccounted, StayAccounted}};
 ghost use Rattle.vs_proxy_parts.specs.State.{Handshake};
 ghost use Rattle.vs_ring_port.specs.declared.device_ring.Next.TheVariants as next;

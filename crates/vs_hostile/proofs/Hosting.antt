@@ -3,7 +3,7 @@ use Rattle.std.{proofs.Common.{◌≡◌, ℕ, Bool, true, false, cond, List, �
 use Rattle.vs_flow.specs.Table.{Table}
 use Rattle.vs_outside.specs.Host.{HostContents}
 use Rattle.vs_device_parts.specs.{Playing.IsItsRing, State.{DeviceConnection, DeviceState}}
-use Rattle.laws_device.specs.Named.Streams.{HasStreams}
+use Rattle.laws_walks.specs.Named.Streams.{HasStreams}
 use Rattle.vs_proxy_parts.specs.{Handshakes.streams_of, State.ProxyState}
 use Rattle.vs_script.specs.{Outside.Host, Data.bytes_of, Hostile.Hostile}
 use Rattle.byteorder.specs.Endian.{little_bytes}

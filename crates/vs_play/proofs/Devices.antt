@@ -7,7 +7,8 @@ use Rattle.vs_outside.specs.Host.{HostContents}
 use Rattle.vs_driver_parts.specs.State.{DriverState}
 use Rattle.laws_driver.specs.Honest.{IsHonestWith}
 use Rattle.vs_device_parts.specs.{Calls.Situation, Playing.{IsItsRing, Runs, situation}}
-use Rattle.laws_device.proofs.{Named.Opening.new_has, Carrying.ring_only}
+use Rattle.laws_walks.proofs.Named.Opening.{new_has}
+use Rattle.laws_device.proofs.Carrying.{ring_only}
 use Rattle.vs_proxy_parts.specs.{State.ProxyState, Turns.{new_proxy, proxy_reset_of, turn_of}, declared.answers.Turn.Turn}
 use Rattle.laws_proxy.proofs.{Named.Lists.none_open, Turning.{new_proxy_with, proxy_reset_keeps, turn_keeps, plain_proxied}, Ordered.{reset_honest, reset_streams, turn_honest}}
 use Rattle.laws_proxy.proofs.Ordered.{turn_streams}

@@ -4,7 +4,7 @@ use Rattle.vs_outside.specs.Host.{HostContents}
 use Rattle.vs_ring_port.specs.{Chains.chains_of, EndLog.EndLog}
 use Rattle.vs_ring_list.specs.Ends.{Ends, device_contents}
 use Rattle.vs_device_parts.specs.Playing.{IsItsRing}
-use Rattle.laws_device.specs.Named.Streams.{HasStreams}
+use Rattle.laws_walks.specs.Named.Streams.{HasStreams}
 use Rattle.vs_proxy_parts.specs.{Handshakes.streams_of, State.ProxyState}
 use Rattle.laws_proxy.specs.Honest.{IsProxyWith}
 use Rattle.laws_world.{specs.World.first_cid, proofs.StayOpen.StayOpen, proofs.StayOpen.still_has}

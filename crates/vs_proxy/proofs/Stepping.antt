@@ -3,7 +3,7 @@ use Rattle.std.{proofs.Common.{◌≡◌, ℕ, Bool, true, false, Option, None, 
 use Rattle.vs_outside.specs.Host.{HostContents}
 use Rattle.vs_ring_port.specs.Contents.{RingContents}
 use Rattle.vs_device_parts.specs.{Calls.{Allows, Call, DeviceTree, Situation}, Playing.{RunsOnHost, situation}}
-use Rattle.laws_device.{specs.Named.{Split.{CanReach, is_quiet}, Streams.HasStreams}, proofs.Named.Keeping.{Keeps, keeps_end}}
+use Rattle.laws_walks.{specs.Named.{Split.{CanReach, is_quiet}, Streams.HasStreams}, proofs.Named.Keeping.{Keeps, keeps_end}}
 use Rattle.vs_proxy_parts.specs.{Handshakes.{accept_one, read_byte, streams_of, tick_handshake}, State.{ProxyState, Turning, start}}
 use Rattle.laws_proxy.proofs.Named.Shaking.{FindsAll, Turns, TurnsFirst, keeps_accept_one, keeps_read_byte, keeps_tick_handshake}
 

@@ -6,7 +6,7 @@ ghost use Rattle.vs_outside.specs.Host.{HostContents};
 ghost use Rattle.vs_ring_port.specs.{Contents.RingContents, declared.device_ring.Chain.Chain};
 ghost use Rattle.vs_device_parts.specs.{Calls.Situation, Growing.{owed_in, rises}, Playing.IsItsRing, State.counters_of, declared.answers.Grown.TheVariants.Done};
 ghost use Rattle.vs_proxy_parts.specs.{Growing.{after_flow_grow, after_label_grow, flow_grow_of, label_at, label_grow_of, slot_of}, Handshakes.streams_of};
-ghost use Rattle.laws_device.specs.Named.Streams.{HasStreams};
+ghost use Rattle.laws_walks.specs.Named.Streams.{HasStreams};
 ghost use Rattle.laws_proxy.specs.{Honest.{IsProxyStreamedSince, IsProxyWith}, Order.IsInOrder, Account.{Made.Made, Told.AreAccounted}};
 
 use crate::proxy::Proxy;

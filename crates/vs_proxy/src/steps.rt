@@ -5,7 +5,7 @@ ghost use Rattle.std.specs.{Prelude.{◌≡◌, ◌≤◌, ℕ, Bool, List, Cont
 ghost use Rattle.vs_limits.specs.declared.TheConstants.{GUEST_CID_MIN, GUEST_CID_MAX};
 ghost use Rattle.vs_outside.specs.Host.{HostContents};
 ghost use Rattle.vs_ring_port.specs.declared.queue.Queue.TheVariants.{Event, Rx, Tx};
-ghost use Rattle.laws_device.specs.Named.Streams.{HasStreams};
+ghost use Rattle.laws_walks.specs.Named.Streams.{HasStreams};
 ghost use Rattle.vs_device_parts.specs.{Playing.{IsAmong, MayRun, MayRunOnHost, MayRunOnRing, Runs, RunsOnHost, RunsOnRing, situation}, Steps.{puts_event, puts_owed}};
 ghost use Rattle.vs_device_parts.specs.{Steps.{puts_payload, puts_reply, returns, shuts_write, takes_chain, writes}, Streams.tick_slot};
 ghost use Rattle.vs_proxy_parts.specs.{Handshakes.{accept_one, read_byte, streams_of, tick_handshake}, Turns.proxy_reset_of, State.{Turning, start, with_device}};

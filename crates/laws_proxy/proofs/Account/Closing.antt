@@ -1,5 +1,5 @@
 -- Connections whose end changes, streams that are closed, connections that leave.
-use Rattle.laws_device.{specs.Walk.Seen.Seen, proofs.Walk.Serving.{Closes, IsIn}}
+use Rattle.laws_walks.{specs.Seen.Seen, proofs.Serving.{Closes, IsIn}}
 use Rattle.vs_ring_port.specs.declared.device_ring.Chain.{Chain}
 use Rattle.laws_proxy.specs.Account.{Made.{Account, Made, account_of, made, payload_put, payload_taken, shut}, Tied.{Agree, AgreesWith, IsLawful, IsOver, IsTied, IsTiedTo}}
 use Rattle.laws_proxy.proofs.Account.{Keeping.{asking, Keeps}, Accounts.{Changes, changes, changing, stays}, Entries.{given_of, given_shut, join_of, left, moved}}
@@ -11,7 +11,7 @@ use Rattle.vs_device_parts.specs.Streams.{tick_of}
 use Rattle.vs_conn.specs.End.{aborted}
 use Rattle.vs_proxy_parts.specs.State.{Handshake}
 use Rattle.laws_tables.proofs.Changes.{changed, others_left, without_changed}
-use Rattle.laws_device.proofs.Walk.Serving as walked
+use Rattle.laws_walks.proofs.Serving as walked
 use Rattle.vs_conn.specs.declared.end.State.TheVariants as state
 
 -- A connection and its stream's account change, or the connection leaves.

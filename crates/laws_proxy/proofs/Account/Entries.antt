@@ -9,7 +9,7 @@ use Rattle.vs_page.{proofs.Flows.same_self}
 use Rattle.vs_device_parts.specs.State.{DeviceConnection, DeviceEntry}
 use Rattle.vs_proxy_parts.specs.State.{Handshake}
 use Rattle.laws_tables.proofs.{Changes.{changed, others_left, under_slot}}
-use Rattle.laws_device.proofs.Carried.Streamed.{is_or_not}
+use Rattle.laws_streams.proofs.Streamed.{is_or_not}
 use Rattle.laws_proxy.specs.Account.{Made.{Account, is_on, shut, took, with_taken}, Tied.{AreTied, IsLawful, IsTied, IsTiedTo, reading_account, stream_of}}
 use Rattle.laws_proxy.proofs.Account.Accounts.{Changes, changing}
 use Rattle.vs_uds.specs.{Reading.is_decided, declared.connect.TheConstants.CONNECT_MAX}

@@ -5,7 +5,7 @@ use Rattle.vs_ring_port.specs.declared.{device_ring.{Chain.Chain, Next.Next}, fa
 use Rattle.vs_device_parts.specs.{Calls.{Answer, DeviceTree}}
 use Rattle.vs_proxy_parts.specs.{Turns.{event_stage, fill_stage, pump_stage, take_stage, tick_stage, turn_of, turned, unless_failed}, Handshakes.shake_hands, State.{ProxyState, Turning}}
 use Rattle.vs_proxy_parts.specs.{State.start, declared.answers.{Turn.Turn, Turned.Turned}}
-use Rattle.laws_device.proofs.Walk.{Fields.{AfterTx, Calls, Fields, TxCalls, fields, fields_turn}, Keeping.{Asking, Keeps}}
+use Rattle.laws_walks.proofs.{Fields.{AfterTx, Calls, Fields, TxCalls, fields, fields_turn}, Keeping.{Asking, Keeps}}
 use Rattle.laws_proxy.specs.Account.{Events.{TellsEvent, event_put, events_put}, Made.{Made, Makes}}
 use Rattle.vs_proxy_parts.specs.declared.answers.Turn.TheVariants as turn
 use Rattle.vs_ring_port.specs.declared.device_ring.Next.TheVariants as next

@@ -4,7 +4,8 @@ use Rattle.vs_conn.specs.End.{grown}
 use Rattle.vs_outside.specs.Host.{HostContents}
 use Rattle.vs_device_parts.specs.{Growing.after_grow, State.DeviceState}
 use Rattle.vs_proxy_parts.specs.State.{Handshake}
-use Rattle.laws_device.proofs.{Growing.grow_by, Walk.Serving.by_slot}
+use Rattle.laws_walks.proofs.Serving.{by_slot}
+use Rattle.laws_device.proofs.Growing.{grow_by}
 use Rattle.laws_proxy.specs.Account.{Made.{Made, account_of, payload_put, payload_taken}, Tied.AgreesWith, Told.AreAccounted}
 use Rattle.laws_proxy.proofs.Account.{Carrying.carries, Receiving.has_end}
 

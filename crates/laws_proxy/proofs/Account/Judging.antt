@@ -17,7 +17,7 @@ use Rattle.vs_uds.specs.Path.{path_of}
 use Rattle.vs_limits.specs.declared.TheConstants.{DEVICE_REPLIES}
 use Rattle.laws_proxy.specs.Account.Judged.{AreUnmoved, AtLength, AtTake, Before, IsAnswered, IsDialedAs, IsDone, IsJudged, IsTried, IsUnknown, delivered_in, read_of}
 use Rattle.laws_proxy.{specs.Account.Made.{Account, Made, Makes, MayGet, account_of, made, new_account, shut}, proofs.Account.Keeping.{Keeps, asking, keeps_end}}
-use Rattle.laws_device.proofs.Walk.Keeping.{keeps_if, keeps_some, keeps_then}
+use Rattle.laws_walks.proofs.Keeping.{keeps_if, keeps_some, keeps_then}
 use Rattle.vs_conn.specs.declared.end.Verdict.TheVariants as verdict
 use Rattle.vs_conn.specs.declared.end.Why.TheVariants as why
 use Rattle.vs_outside.specs.declared.host_net.Dialed.TheVariants as dialed

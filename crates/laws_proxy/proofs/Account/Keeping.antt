@@ -1,6 +1,6 @@
 -- What a conversation keeps: what holds at each of its ends, of what it leaves and of the calls made.
-use Rattle.laws_device.proofs.Walk.Keeping.{Asking}
-use Rattle.laws_device.proofs.Walk.Keeping as walked
+use Rattle.laws_walks.proofs.Keeping.{Asking}
+use Rattle.laws_walks.proofs.Keeping as walked
 use Rattle.std.proofs.{Common.{◌≡◌, ℕ, List, ◌∷◌, Some, subst, sym, arith}, lemmas.Grind.common_steps}
 use Rattle.vs_contents.specs.CallTree.{Done, Ask, Leads}
 use Rattle.vs_device_parts.specs.Calls.{Call, Answer, DeviceTree, Label, ReadStream, WriteStream}

@@ -1,6 +1,6 @@
 -- A client's connection, and a transport reset.
 use Rattle.std.proofs.lemmas.Grind.{common_steps}
-use Rattle.laws_device.proofs.{Walk.Keeping.{keeps_each, keeps_if, keeps_some, keeps_then}, Named.Opening.empty_sound}
+use Rattle.laws_walks.proofs.{Keeping.{keeps_each, keeps_if, keeps_some, keeps_then}, Named.Opening.empty_sound}
 use Rattle.laws_proxy.specs.Account.{Made.{Account, Made, account_of, labelled, made, payload_put, payload_taken, shut}, Tied.{Agree, IsLawful, IsOver, IsTiedTo, IsWhole}}
 use Rattle.laws_proxy.{specs.Account.Tied.reading_account, proofs.Account.{Accounts.{Changes, changes, changing, stays}, Entries.{added, given_shut, hands_changed, one_account}}}
 use Rattle.laws_proxy.proofs.Account.{Keeping.{asking, Keeps, keeps_weaker}, Closing.Has}

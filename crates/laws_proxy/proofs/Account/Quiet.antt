@@ -7,12 +7,12 @@ use Rattle.vs_wrap.specs.Wrap.{counted}
 use Rattle.vs_device_parts.specs.{Receiving.written, Calls.{Accept, DeviceTree, Dial, ReadStream, Ring, WriteStream}}
 use Rattle.vs_proxy_parts.specs.{Turns.{event_stage, fill_stage, proxy_reset_of, pump_stage, tick_stage, turn_of, unless_failed}, Handshakes.shake_hands, State.Handshake}
 use Rattle.vs_proxy_parts.specs.{State.{ProxyState, Turning, start}, declared.answers.Turn.Turn}
-use Rattle.laws_device.proofs.Walk.{Fields.{AfterEventPage, AfterTx, Calls, Fields, HeaderRead, TxCalls, after_rx}, Keeping.{Asking, Keeps, keeps_then}, Single.reset_keeps}
-use Rattle.laws_device.proofs.Walk.{Serving.{Closes, Fills, keeps_fill_rx, keeps_pay_event, keeps_pump, keeps_tick}, Turning.{Between, Turns, keeps_event_stage, keeps_fill_stage}}
-use Rattle.laws_device.{proofs.Walk.Turning.{keeps_pump_stage, keeps_shake_hands, keeps_tick_stage, keeps_unless}, specs.Walk.Seen.Seen}
+use Rattle.laws_walks.proofs.{Fields.{AfterEventPage, AfterTx, Calls, Fields, HeaderRead, TxCalls, after_rx}, Keeping.{Asking, Keeps, keeps_then}, Single.reset_keeps}
+use Rattle.laws_walks.proofs.{Serving.{Closes, Fills, keeps_fill_rx, keeps_pay_event, keeps_pump, keeps_tick}, Turning.{Between, Turns, keeps_event_stage, keeps_fill_stage}}
+use Rattle.laws_walks.{proofs.Turning.{keeps_pump_stage, keeps_shake_hands, keeps_tick_stage, keeps_unless}, specs.Seen.Seen}
 use Rattle.laws_proxy.{specs.Account.{Counts.{DeviceCounts, count_made, counts_shown}, Packets.{after_packets, before_packets}}, proofs.Account.Walks.{Walks, counting}}
 use Rattle.vs_ring_port.specs.declared.device_ring.Next.TheVariants as next
-use Rattle.laws_device.proofs.Walk.Fields as walk
+use Rattle.laws_walks.proofs.Fields as walk
 
 abbrev shown : Fields → DeviceCounts
 shown n = record { cid = n.cid; dropped = n.dropped; faults = n.faults }

@@ -1,7 +1,8 @@
 -- Packets to the guest, and the reads of the host's streams that give their payload: no stream is given a byte.
 use Rattle.std.proofs.lemmas.Grind.{common_steps}
 use Rattle.vs_flow.specs.{Table.{with_value, Table}, declared.flow.Flow.Flow}
-use Rattle.laws_device.{proofs.{Walk.Serving.{AfterEvent, AfterRead, Fills, IsIn}, Carried.Gives.pays_gives, Named.Ends.shut_over}, specs.Carried.Streamed.gives}
+use Rattle.laws_walks.proofs.{Serving.{AfterEvent, AfterRead, Fills, IsIn}, Named.Ends.shut_over}
+use Rattle.laws_streams.{proofs.Gives.pays_gives, specs.Streamed.gives}
 use Rattle.laws_proxy.proofs.Account.{Closing.{D, closes, Has, agree_same, join, over_there}, Accounts.{Changes, changes, changing, stays}, Keeping.{asking, Keeps}}
 use Rattle.laws_proxy.{proofs.Account.{Entries.{hand_other, taken_tied}, Ties.{end_changes, shuts}}, specs.Account.Made.{Account, Made, account_of, is_for, is_of, made}}
 use Rattle.laws_proxy.specs.Account.{Made.{payload_put, payload_taken, ports_of, with_taken}, Tied.{Agree, AgreesWith, IsTied, reading_account}}
@@ -16,7 +17,7 @@ use Rattle.vs_ring_port.specs.{declared.{queue.Queue.TheVariants.{Event, Rx}, de
 use Rattle.vs_device_parts.specs.{Receiving.{fill_rx_of, pay_event_of, read_room, written}, State.{DeviceConnection, DeviceEntry, DeviceState}, Calls.{ReadStream, Ring}}
 use Rattle.vs_device_parts.specs.Connections.{after_shut, route_to_guest}
 use Rattle.vs_proxy_parts.specs.State.{Handshake}
-use Rattle.laws_device.proofs.Walk.Serving as walked
+use Rattle.laws_walks.proofs.Serving as walked
 use Rattle.vs_outside.specs.declared.host_net.StreamRead.TheVariants as read
 use Rattle.vs_ring_port.specs.declared.device_ring.Next.TheVariants as next
 

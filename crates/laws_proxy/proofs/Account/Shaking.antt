@@ -1,7 +1,7 @@
 -- Handshakes: their clients' streams are given nothing before they have a connection.
 use Rattle.vs_device_parts.specs.{Calls.{Label, Accept, CloseStream, ReadStream}, State.DeviceState, Connections.with_client}
-use Rattle.laws_device.proofs.{Walk.Turning.{AfterAccept, AfterByte, AfterLine, Between, IsOn, Shakes}, Carried.Hands.{ends_by, no_line, with_all, with_apart}}
-use Rattle.laws_device.proofs.Carried.{Hands.{without_after, without_all, without_none, without_pairs}, Lines.{line_ends, line_whole}}
+use Rattle.laws_walks.proofs.Turning.{AfterAccept, AfterByte, AfterLine, Between, IsOn, Shakes}
+use Rattle.laws_streams.proofs.{Hands.{ends_by, no_line, with_all, with_apart, without_after, without_all, without_none, without_pairs}, Lines.{line_ends, line_whole}}
 use Rattle.laws_proxy.specs.Account.{Made.{Account, Made, MayGet, account_of, is_of, made, new_account, payload_put, payload_taken, shut, with_taken}, Tied.IsWhole}
 use Rattle.laws_proxy.{specs.Account.Tied.reading_account, proofs.Account.{Closing.{D, Has}, Keeping.asking, Opening.{opens, waits_unlabelled}, Accounts.{Changes, changes, comes}}}
 use Rattle.laws_proxy.proofs.Account.Entries.{hands_changed, taken_tied, waiting_kept}

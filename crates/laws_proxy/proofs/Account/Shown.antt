@@ -4,7 +4,7 @@ use Rattle.std.specs.Option.{option_map}
 use Rattle.vs_flow.specs.declared.flow.Flow.{Flow}
 use Rattle.vs_outside.{specs.Host.{HostContents, Stream, stream_at, with_stream}, proofs.Frames.{keeps_others, stream_at-with_stream}}
 use Rattle.laws_proxy.specs.Account.{Made.{Account}, Tied.{IsRead}, Told.{Shows, ShowsAt, ShowsIn}}
-use Rattle.laws_device.proofs.Carried.{Hosts.{new_there, none_there as past_end, others_there}, Streamed.is_or_not}
+use Rattle.laws_streams.proofs.{Hosts.{new_there, none_there as past_end, others_there}, Streamed.is_or_not}
 
 -- What is read of a stream stays lawful where nothing of it changes.
 pub read_same : (o : Option Flow) (a b : Account) → b.by_client ≡ a.by_client → b.line ≡ a.line → b.taken ≡ a.taken → IsRead o a

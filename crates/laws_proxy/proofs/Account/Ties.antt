@@ -5,8 +5,8 @@ use Rattle.vs_conn.specs.End.{ConnectionEnd, verdict_of, with_shut}
 use Rattle.vs_header.specs.declared.Header.{Header}
 use Rattle.vs_page.specs.Fair.{IsPrefixOf}
 use Rattle.vs_device_parts.specs.{Connections.{after_shut, after_written, stream_closed}, State.{DeviceConnection, DeviceEntry}, Streams.to_write, Transmitting.heard}
-use Rattle.laws_device.{specs.Carried.Streamed.gives, proofs.Carried.Gives.{accepted_other, accepts_asked, delivered_other, delivers_gives, drop_both, first_of, forwards_asked}}
-use Rattle.laws_device.proofs.Carried.Gives.{forwards_gives, shuts_asked, shuts_gives}
+use Rattle.laws_streams.{specs.Streamed.gives, proofs.Gives.{accepted_other, accepts_asked, delivered_other, delivers_gives, drop_both, first_of, forwards_asked, forwards_gives}}
+use Rattle.laws_streams.proofs.Gives.{shuts_asked, shuts_gives}
 use Rattle.laws_tables.proofs.Logs.{all_of, shorter}
 use Rattle.laws_proxy.specs.Account.{Made.Account, Tied.{IsTiedTo, gives_all, ok_line_of}}
 use Rattle.vs_conn.specs.declared.end.State.TheVariants as state

@@ -4,7 +4,8 @@ use Rattle.laws_proxy.specs.Account.{Made.{Account, Made, MayGet, account_of, de
 use Rattle.laws_proxy.{specs.Account.Tied.{Agree, IsOver, IsTied, IsTiedTo, ok_line_of, stream_of}, proofs.Account.Closing.{D, closes, Has, agree_moved, agree_same, join}}
 use Rattle.laws_proxy.proofs.Account.{Closing.over_there, Accounts.{Changes, comes, is_delivered, not_delivered, self_is}, Ties.{answers, delivers, end_changes}, Keeping.asking}
 use Rattle.laws_proxy.proofs.Account.{Keeping.Keeps, Entries.{added, waiting_kept}}
-use Rattle.laws_device.{specs.{Walk.Seen.Seen}, proofs.{Walk.{Serving.by_flow, Taking.{AfterDial, Takes}}, Carried.Gives.{hears_gives}}}
+use Rattle.laws_walks.{specs.Seen.Seen, proofs.{Serving.by_flow, Taking.{AfterDial, Takes}}}
+use Rattle.laws_streams.proofs.Gives.{hears_gives}
 use Rattle.std.proofs.{Common.{◌≡◌, ℕ, Bool, true, false, cond, List, ◌∷◌, ◌++◌, Contains, Option, Some, None, refl, sym, ap, subst, ◌∙◌, arith}, lemmas.List.Elements.All-push}
 use Rattle.std.specs.Option.{option_map}
 use Rattle.vs_conn.{specs.{End.{answering, verdict_of}, declared.end.{State.{TheVariants.Ended}, Verdict.Verdict}}, proofs.Frames.{got_asked, got_over}}
@@ -19,7 +20,7 @@ use Rattle.vs_uds.specs.Path.{path_of}
 use Rattle.vs_device_parts.specs.{State.{DeviceConnection, DeviceEntry, DeviceState}, Calls.{Dial, Ring}, Transmitting.{heard, take_tx_of}, Connections.new_connection}
 use Rattle.vs_device_parts.specs.Connections.{with_connection}
 use Rattle.vs_proxy_parts.specs.State.{Handshake}
-use Rattle.laws_device.proofs.Walk.Taking as walked
+use Rattle.laws_walks.proofs.Taking as walked
 use Rattle.vs_conn.specs.declared.end.Verdict.TheVariants as verdict
 use Rattle.vs_outside.specs.declared.host_net.Dialed.TheVariants as dialed
 use Rattle.vs_ring_port.specs.declared.device_ring.Next.TheVariants as next

@@ -1,5 +1,5 @@
 -- A turn and a reset.
-use Rattle.laws_device.proofs.Walk.Keeping.{keeps_each, keeps_then}
+use Rattle.laws_walks.proofs.Keeping.{keeps_each, keeps_then}
 use Rattle.laws_proxy.specs.Account.{Made.{Made, account_of, payload_put, payload_taken}, Tied.AccountsFor, Told.{AreAccounted, Shows, StayAccounted}}
 use Rattle.laws_proxy.proofs.Account.{Opening.{AreReset, ResetEnds, keeps_reset, reset_agrees, reset_closes}, Closing.{D, closes}, Keeping.{asking, Keeps}}
 use Rattle.laws_proxy.proofs.Account.{Receiving.fills, Shaking.shakes, Transmitting.{U, takes}, Writing.writes, Telling.stay_accounted}
@@ -9,7 +9,7 @@ use Rattle.vs_ring_port.specs.declared.failure.Failure.{Failure}
 use Rattle.vs_device_parts.specs.{Calls.Situation, Playing.Runs, State.DeviceState, Turns.reset_of}
 use Rattle.vs_outside.specs.Host.{HostContents}
 use Rattle.vs_proxy_parts.specs.{Turns.{close_handshake, proxy_reset_of, reset_with, turn_of}, Handshakes.streams_of, State.{ProxyState, with_device}, declared.answers.Turn.Turn}
-use Rattle.laws_device.proofs.Walk.Turning as walked
+use Rattle.laws_walks.proofs.Turning as walked
 
 pub keeps_turn : (size now : ℕ) (s : ProxyState) (calls : List Made) → AccountsFor s calls
     → Keeps (λ (x : ProxyState × Turn) later. AccountsFor x.0 later) (turn_of size now s) calls

@@ -6,7 +6,7 @@ use Rattle.vs_outside.specs.{Faults.CountsFault, Host.{accept_failed, dial_faile
 use Rattle.vs_ring_port.specs.{Contents.Take, declared.{device_ring.Chain.Chain, queue.Queue.TheVariants.Tx}}
 use Rattle.vs_wrap.specs.Wrap.{counted}
 use Rattle.vs_device_parts.specs.Calls.{Accept, Allows, Answer, Call, DeviceTree, Dial, ReadStream, Ring, Situation, WriteStream}
-use Rattle.laws_device.proofs.Walk.Keeping.{Asking, Keeps}
+use Rattle.laws_walks.proofs.Keeping.{Asking, Keeps}
 use Rattle.laws_proxy.specs.Account.{Counts.{CountsFaults, DeviceCounts, count_made, counts_of}, Made.{Made, Makes}, Packets.{chains_taken, taken_by}}
 
 -- Calls that come to these counts; where chains of tx are left out, none is taken.

@@ -1,5 +1,5 @@
 -- What is written to the host's streams.
-use Rattle.laws_device.proofs.{Walk.Serving.{AfterWrite, IsIn, Writes}, Named.Ends.{forwarded_over, shut_over}}
+use Rattle.laws_walks.proofs.{Serving.{AfterWrite, IsIn, Writes}, Named.Ends.{forwarded_over, shut_over}}
 use Rattle.laws_proxy.proofs.Account.{Closing.{D, closes, Has, agree_moved, agree_same, join, over_there}, Keeping.{asking, Keeps}, Accounts.changes, Ties.{end_changes, shuts}}
 use Rattle.laws_proxy.{proofs.Account.Ties.writes as writes_tie, specs.Account.{Made.{Made, MayGet, account_of, made, payload_put, payload_taken, with_given}, Tied.IsTied}}
 use Rattle.std.proofs.Common.{◌≡◌, ◌-◌, true, List, ◌∷◌, refl, length, take}
@@ -8,7 +8,7 @@ use Rattle.vs_outside.specs.declared.host_net.StreamWrite.{StreamWrite}
 use Rattle.vs_device_parts.specs.{Calls.WriteStream, Connections.{after_shut, after_written, with_connection}, State.{DeviceEntry, DeviceState}, Streams.{Writing, pump_of}}
 use Rattle.vs_device_parts.specs.Streams.{to_write}
 use Rattle.vs_proxy_parts.specs.State.{Handshake}
-use Rattle.laws_device.proofs.Walk.Serving as walked
+use Rattle.laws_walks.proofs.Serving as walked
 use Rattle.vs_outside.specs.declared.host_net.StreamWrite.TheVariants as write
 
 module _ (hands : List Handshake) where

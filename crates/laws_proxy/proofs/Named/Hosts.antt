@@ -5,7 +5,7 @@ use Rattle.vs_flow.specs.Table.{Table}
 use Rattle.vs_outside.{specs.Host.{HostContents, IsOpen, accept_answer, after_accept, after_close}, proofs.Frames.{accepts_waiting, open_of, others-after_accept}}
 use Rattle.vs_outside.proofs.Frames.{others-after_close, stays_open}
 use Rattle.vs_device_parts.specs.State.{DeviceConnection}
-use Rattle.laws_device.specs.Named.Streams.{AreApart, HasStreams, IsFree, stream_under}
+use Rattle.laws_walks.specs.Named.Streams.{AreApart, HasStreams, IsFree, stream_under}
 use Rattle.laws_proxy.proofs.Named.Lists.{push_apart}
 use Rattle.vs_outside.specs.declared.host_net.Accepted.TheVariants as accepted
 use Rattle.vs_outside.specs.declared.host_net.StreamState.TheVariants as state

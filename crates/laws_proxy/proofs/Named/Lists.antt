@@ -2,7 +2,7 @@
 use Rattle.std.proofs.Common.{◌≡◌, ℕ, zero, suc, ◌==◌, Bool, true, false, cond, List, [], ◌∷◌, ◌++◌, map, Some, Contains, ◌⊎◌, inl, inr, refl, sym, ap, subst, ◌∙◌, arith}
 use Rattle.std.{proofs.lemmas.{Bool.Decides.nat_tests, List.Elements.Contains-push_cases}, specs.List.find}
 use Rattle.vs_outside.specs.Host.{HostContents}
-use Rattle.laws_device.specs.Named.Streams.{AreApart, AreOpen}
+use Rattle.laws_walks.specs.Named.Streams.{AreApart, AreOpen}
 use Rattle.vs_proxy_parts.specs.{Handshakes.{with_line, without_stream}, State.Handshake}
 
 abbrev pub ids : List Handshake → List ℕ

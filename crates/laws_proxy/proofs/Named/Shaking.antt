@@ -1,7 +1,7 @@
 -- Handshakes: each call names a stream that is open.
-use Rattle.laws_device.proofs.{Walk.{Turning.{AfterAccept, AfterByte, AfterLine, Between, Shakes}, Keeping.Asking}, Named.Tables.{has_moved, some_after, some_from}}
-use Rattle.laws_device.{proofs.Named.{Keeping.{asking, Keeps}, Opening.keeps_open, Writing.all_stay}, specs.{Walk.Seen.Seen, Named.Split.{CanReach, is_quiet}}}
-use Rattle.laws_device.specs.Named.Streams.{FindsStreams, HasStreams, IsFree}
+use Rattle.laws_walks.proofs.{Turning.{AfterAccept, AfterByte, AfterLine, Between, Shakes}, Keeping.Asking, Named.{Tables.{has_moved, some_after, some_from}, Keeping.asking}}
+use Rattle.laws_walks.{proofs.Named.{Keeping.Keeps, Opening.keeps_open, Writing.all_stay}, specs.{Seen.Seen, Named.{Split.{CanReach, is_quiet}, Streams.FindsStreams}}}
+use Rattle.laws_walks.specs.Named.Streams.{HasStreams, IsFree}
 use Rattle.std.{proofs.Common.{Result, Ok, Err, ◌≡◌, ℕ, Bool, true, List, [], ◌∷◌, ◌++◌, Option, Some, None, Contains, refl, sym, subst}, specs.Option.ForSome}
 use Rattle.vs_flow.specs.{Table.refusal, declared.{table.TableFault.TableFault, flow.Flow.Flow}}
 use Rattle.vs_ring_port.specs.declared.device_ring.Chain.{Chain}
@@ -11,7 +11,7 @@ use Rattle.vs_contents.specs.CallTree.{Done, Ask}
 use Rattle.vs_outside.specs.{Host.{IsOpen, accept_answer, after_accept, after_close, after_read}, declared.host_net.{Accepted.Accepted, StreamRead.StreamRead}}
 use Rattle.vs_outside.proofs.Frames.{open-after_read, others-after_read}
 use Rattle.vs_proxy_parts.specs.{Handshakes.{accept_one, read_byte, streams_of, tick_handshake, with_line, without_stream}, State.{Handshake, ProxyState, Turning}}
-use Rattle.laws_device.proofs.Walk.Turning as walked
+use Rattle.laws_walks.proofs.Turning as walked
 use Rattle.vs_outside.specs.declared.host_net.Accepted.TheVariants as accepted
 use Rattle.vs_outside.specs.declared.host_net.StreamRead.TheVariants as read
 

@@ -1,6 +1,6 @@
 -- A turn and a reset.
-use Rattle.laws_device.proofs.Named.{Keeping.{asking, Keeps, keeps_then}, Closing.closes, Receiving.fills, Transmitting.takes, Writing.writes, Opening.keeps_reset}
-use Rattle.laws_device.{proofs.Named.{Tables.{some_after, some_from}, Stepping.reach}, specs.Named.{Split.{CanReach, is_quiet}, Streams.{FindsStreams, HasStreams}}}
+use Rattle.laws_walks.proofs.Named.{Keeping.{asking, Keeps, keeps_then}, Closing.closes, Receiving.fills, Transmitting.takes, Writing.writes, Opening.keeps_reset}
+use Rattle.laws_walks.{proofs.Named.{Tables.{some_after, some_from}, Stepping.reach}, specs.Named.{Split.{CanReach, is_quiet}, Streams.{FindsStreams, HasStreams}}}
 use Rattle.laws_proxy.proofs.Named.{Shaking.{D, shakes, FindsAll}, Lists.{ids, at_first, further}, Hosts.has_dropped}
 use Rattle.std.{proofs.Common.{◌≡◌, ℕ, true, List, [], ◌∷◌, Some, Result, Ok, Err, refl}, specs.Option.ForSome}
 use Rattle.vs_contents.specs.CallTree.{Done, for_each}
@@ -9,7 +9,7 @@ use Rattle.vs_outside.specs.Host.{IsOpen, after_close}
 use Rattle.vs_ring_port.specs.declared.failure.Failure.{Failure}
 use Rattle.vs_device_parts.specs.{Calls.{Call, CloseStream, Situation, Allows}, State.{DeviceConnection, DeviceState}, Turns.reset_of}
 use Rattle.vs_proxy_parts.specs.{Turns.{close_handshake, proxy_reset_of, reset_with, turn_of}, Handshakes.streams_of, State.{ProxyState, with_device}, declared.answers.Turn.Turn}
-use Rattle.laws_device.proofs.Walk.Turning as walked
+use Rattle.laws_walks.proofs.Turning as walked
 
 pub keeps_turn : (size now : ℕ) (s : ProxyState) (c : Situation) → FindsAll s c
     → Keeps CanReach Allows (λ (x : ProxyState × Turn) d. FindsAll x.0 d) (turn_of size now s) c

@@ -1,6 +1,7 @@
 use Rattle.vs_device_parts.specs.{Calls.Allows, Receiving.{fill_rx_of, pay_event_of}, Transmitting.take_tx_of, Turns.reset_of}
-use Rattle.laws_device.{specs.Named.Split.CanReach, proofs.{Named.{Conditions.may_where, Keeping.keeps_may, Receiving.{keeps_fill_rx, keeps_pay_event}}, Carrying.ring_only}}
-use Rattle.laws_device.proofs.{Carrying.{plain_with, ring_end}, Filling.fill_keeps, Keeping.keeps_put, Transmitting.take_keeps, Turning.{new_with, pay_keeps, reset_keeps}}
+use Rattle.laws_walks.{specs.Named.Split.CanReach, proofs.Named.{Conditions.may_where, Keeping.keeps_may, Receiving.{keeps_fill_rx, keeps_pay_event}}}
+use Rattle.laws_device.proofs.{Carrying.{ring_only, plain_with, ring_end}, Filling.fill_keeps, Keeping.keeps_put, Transmitting.take_keeps, Turning.{new_with, pay_keeps}}
+use Rattle.laws_device.proofs.Turning.{reset_keeps}
 use Rattle.std.proofs.Common.{[]}
 use Rattle.laws_device.proofs.laws.law_of_ring_calls.Goals as goal
 

@@ -1,8 +1,8 @@
 use Rattle.std.proofs.Common.{ℕ, None, subst, sym, refl}
 use Rattle.vs_page.specs.Log.{Log}
 use Rattle.vs_device_parts.specs.{Calls.{DeviceTree, Situation}, Playing.Runs, State.DeviceState}
-use Rattle.laws_device.{specs.Dropped.{IsCounted, IsCountedWith}, proofs.{Dropping.{P, calls, moving, moving_end, publishes, tx_calls}, Walk.Fields.{fields, fields_turn}}}
-use Rattle.laws_device.proofs.Walk.{Keeping.Keeps, Single.reset_keeps}
+use Rattle.laws_walks.proofs.{Fields.{fields, fields_turn}, Keeping.Keeps, Single.reset_keeps}
+use Rattle.laws_device.{specs.Dropped.{IsCounted, IsCountedWith}, proofs.Dropping.{P, calls, moving, moving_end, publishes, tx_calls}}
 use Rattle.laws_proxy.proofs.laws.law_of_counts.Goals as goal
 
 -- What a whole conversation leaves.

@@ -1,5 +1,5 @@
 use Rattle.vs_device_parts.specs.{Calls.Allows, Playing.CanMake}
-use Rattle.laws_device.{specs.Named.Split.CanReach, proofs.Named.Conditions.may_where, proofs.Named.Conditions.quiet_can, proofs.Named.Keeping.keeps_may}
+use Rattle.laws_walks.{specs.Named.Split.CanReach, proofs.Named.{Conditions.{may_where, quiet_can}, Keeping.keeps_may}}
 use Rattle.vs_proxy_parts.specs.Turns.{proxy_reset_of, turn_of}
 use Rattle.laws_proxy.proofs.Named.Turning.{keeps_proxy_reset, keeps_turn}
 use Rattle.laws_proxy.proofs.streams.law_of_reach.Goals as goal

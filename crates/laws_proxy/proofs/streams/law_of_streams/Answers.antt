@@ -1,6 +1,6 @@
 use Rattle.std.proofs.Common.{[]}
 use Rattle.vs_device_parts.specs.{Calls.Allows, Playing.CanMake}
-use Rattle.laws_device.{specs.Named.Split.CanReach, proofs.Named.Conditions.quiet_can, proofs.Named.Keeping.keeps_end, proofs.Named.Opening.new_has}
+use Rattle.laws_walks.{specs.Named.Split.CanReach, proofs.Named.{Conditions.quiet_can, Keeping.keeps_end, Opening.new_has}}
 use Rattle.vs_proxy_parts.specs.Turns.{proxy_reset_of, turn_of}
 use Rattle.laws_proxy.proofs.Named.{Lists.none_open, Turning.keeps_proxy_reset, Turning.keeps_turn}
 use Rattle.laws_proxy.proofs.streams.law_of_streams.Goals as goal

@@ -1,6 +1,6 @@
 use Rattle.std.proofs.{Common.{◌≡◌, Some, ap}, lemmas.List.Elements.All-contains}
 use Rattle.vs_proxy_parts.specs.State.{Handshake}
-use Rattle.laws_device.{specs.Carried.Streamed.{Seen, look, reading}, proofs.Carried.Hosts.{none_labelled, there as is_there}}
+use Rattle.laws_streams.{specs.Streamed.{Seen, look, reading}, proofs.Hosts.{none_labelled, there as is_there}}
 use Rattle.laws_world.{specs.{Events.run, World.opening}, proofs.{Carried.{given_is, numbered, pending_of, wrote_is}, Opening.run_well}}
 use Rattle.vs_core.proofs.pipes.law_of_streams.Goals as goal
 

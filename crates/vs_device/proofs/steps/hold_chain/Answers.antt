@@ -1,7 +1,7 @@
 use Rattle.std.proofs.Common.{subst}
 use Rattle.vs_device_parts.specs.{Filling.filling_of, Playing.{Runs, situation}, Receiving.{Filling, hold}, declared.fill.Fill.Fill}
 use Rattle.vs_device.proofs.{Stepping.hold_stepped, Ordered.ring_step_streams}
-use Rattle.laws_device.proofs.Named.Stepping.{takes_keeps}
+use Rattle.laws_walks.proofs.Named.Stepping.{takes_keeps}
 use Rattle.vs_ring_port.specs.declared.queue.Queue.TheVariants.{Rx}
 use Rattle.vs_device.proofs.steps.hold_chain.Goals as goal
 

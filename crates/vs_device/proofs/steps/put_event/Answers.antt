@@ -2,7 +2,7 @@ use Rattle.std.proofs.Common.{◌≡◌, true, false, sym, ap, ◌∙◌, rules}
 use Rattle.vs_ring_port.specs.declared.queue.Queue.TheVariants.{Event, Rx}
 use Rattle.vs_device_parts.specs.State.{DeviceState}
 use Rattle.vs_device.proofs.{Stepping.event_put, Stepping.may_put_event, Stepping.returned_among, Ordered.ring_step_streams}
-use Rattle.laws_device.proofs.Named.Stepping.{puts_event_keeps}
+use Rattle.laws_walks.proofs.Named.Stepping.{puts_event_keeps}
 use Rattle.vs_device.proofs.steps.put_event.Goals as goal
 
 pub put_event-requires-clause-may : goal.put_event-requires-clause-may

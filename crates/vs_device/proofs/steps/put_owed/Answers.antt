@@ -1,7 +1,7 @@
 use Rattle.std.proofs.Common.{◌≡◌, true, false, is_some, sym, ap, subst, ◌∙◌}
 use Rattle.vs_device_parts.specs.{Filling.filling_of, Playing.{MayRun, Runs, situation}, Receiving.{Filling, put_owed}, State.DeviceState, declared.fill.Fill.Fill}
 use Rattle.vs_device.proofs.{Stepping.{may_put_owed, no_owed_stepped, owed_stepped}, Ordered.step_streams}
-use Rattle.laws_device.proofs.Named.Stepping.{puts_owed_keeps}
+use Rattle.laws_walks.proofs.Named.Stepping.{puts_owed_keeps}
 use Rattle.vs_device.proofs.steps.put_owed.Goals as goal
 
 pub put_owed-requires-clause-may : goal.put_owed-requires-clause-may

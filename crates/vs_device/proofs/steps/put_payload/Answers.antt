@@ -5,7 +5,7 @@ use Rattle.vs_flow.specs.Table.{entry_under, value_under}
 use Rattle.vs_device_parts.specs.{Calls.Allows, Filling.filling_of, Playing.{MayRun, Runs, situation}, Receiving.{Filling, may_read, read_with_chain}, State.DeviceConnection}
 use Rattle.vs_device_parts.{specs.{State.{DeviceEntry, DeviceState}, declared.fill.Fill.Fill}, proofs.Under.value_of}
 use Rattle.vs_device.proofs.{Among.same_among, Reading.{IsToRead, if_some, may_step_read, read_stepped, reads_stream, same_entry, step_not_read}, Ordered.step_streams}
-use Rattle.laws_device.proofs.Named.Stepping.{puts_payload_keeps}
+use Rattle.laws_walks.proofs.Named.Stepping.{puts_payload_keeps}
 use Rattle.vs_device.proofs.steps.put_payload.Goals as goal
 
 pub read_with_chain-requires-clause-ring : goal.read_with_chain-requires-clause-ring

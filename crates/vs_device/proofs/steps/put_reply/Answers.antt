@@ -1,7 +1,7 @@
 use Rattle.std.proofs.Common.{◌≡◌, true, false, is_some, sym, ap, subst, ◌∙◌}
 use Rattle.vs_device_parts.specs.{Filling.filling_of, Playing.{MayRun, Runs, situation}, Receiving.{Filling, put_reply}, State.DeviceState, declared.fill.Fill.Fill}
 use Rattle.vs_device.proofs.{Stepping.{may_put_reply, no_reply_stepped, reply_stepped}, Ordered.ring_step_streams}
-use Rattle.laws_device.proofs.Named.Stepping.{puts_reply_keeps}
+use Rattle.laws_walks.proofs.Named.Stepping.{puts_reply_keeps}
 use Rattle.vs_device.proofs.steps.put_reply.Goals as goal
 
 pub put_reply-requires-clause-may : goal.put_reply-requires-clause-may

@@ -1,5 +1,5 @@
 use Rattle.vs_device.proofs.{Stepping.shut_stepped, Ordered.host_step_streams}
-use Rattle.laws_device.proofs.Named.Stepping.{shuts_keeps}
+use Rattle.laws_walks.proofs.Named.Stepping.{shuts_keeps}
 use Rattle.vs_device.proofs.steps.shut_write.Goals as goal
 
 pub returns-clause-calls : goal.returns-clause-calls

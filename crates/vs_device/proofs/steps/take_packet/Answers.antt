@@ -2,7 +2,7 @@ use Rattle.std.proofs.Common.{◌≡◌, true, false, nat_le, length, refl, sym,
 use Rattle.vs_ring_port.specs.declared.queue.Queue.TheVariants.{Tx}
 use Rattle.vs_limits.specs.declared.TheConstants.{DEVICE_REPLIES}
 use Rattle.vs_device.proofs.{Stepping.{by_came, came, may_be_heard, may_come, taken_among, takes_none, was_heard}, Ordered.step_streams}
-use Rattle.laws_device.proofs.Named.Stepping.{takes_keeps}
+use Rattle.laws_walks.proofs.Named.Stepping.{takes_keeps}
 use Rattle.vs_device.proofs.steps.take_packet.Goals as goal
 
 pub returns-then-len-ge-DEVICE_REPLIES-clause-calls : goal.returns-then-len-ge-DEVICE_REPLIES-clause-calls

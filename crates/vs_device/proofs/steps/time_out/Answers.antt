@@ -1,4 +1,4 @@
-use Rattle.laws_device.proofs.Named.Stepping.{times_out_keeps}
+use Rattle.laws_walks.proofs.Named.Stepping.{times_out_keeps}
 use Rattle.vs_device.proofs.Ordered.{host_step_streams}
 use Rattle.vs_device.proofs.steps.time_out.Goals as goal
 

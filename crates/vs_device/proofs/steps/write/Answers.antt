@@ -2,7 +2,7 @@ use Rattle.std.proofs.Common.{◌≡◌, false, sym, subst}
 use Rattle.vs_device_parts.specs.State.{DeviceEntry}
 use Rattle.vs_flow.specs.Table.{entry_under}
 use Rattle.vs_device.proofs.{Pumping.has_stream, Reading.same_entry, Stepping.{may_step_write, no_write_stepped, write_stepped}, Ordered.host_step_streams}
-use Rattle.laws_device.proofs.Named.Stepping.{writes_keeps}
+use Rattle.laws_walks.proofs.Named.Stepping.{writes_keeps}
 use Rattle.vs_device.proofs.steps.write.Goals as goal
 
 pub write_pending-requires-clause-may : goal.write_pending-requires-clause-may

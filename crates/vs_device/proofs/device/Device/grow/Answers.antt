@@ -1,7 +1,8 @@
 use Rattle.std.proofs.Common.{◌≡◌, Some, sym, subst, ◌∙◌}
 use Rattle.vs_conn.specs.declared.end.Owed.TheVariants.{CreditUpdate}
 use Rattle.vs_device_parts.{proofs.Growing.grown_told, specs.{Growing.owed_in, State.DeviceState}}
-use Rattle.laws_device.{specs.{Honest.IsWith, Named.Streams.HasStreams, Streams.AreStreamedSince}, proofs.Growing.{grow_streamed, grow_streams, grow_with, grown_same}}
+use Rattle.laws_walks.specs.Named.Streams.{HasStreams}
+use Rattle.laws_device.{specs.{Honest.IsWith, Streams.AreStreamedSince}, proofs.Growing.{grow_streamed, grow_streams, grow_with, grown_same}}
 use Rattle.laws_proxy.{specs.Account.Told.AreAccounted, proofs.Account.Growing.grow_accounted}
 use Rattle.vs_device.proofs.device.Device.grow.Goals as goal
 

@@ -3,7 +3,8 @@ use Rattle.vs_flow.specs.{Table.Table, declared.flow.Flow.Flow}
 use Rattle.vs_replies.specs.declared.{Replies.Replies, Reply.Reply}
 use Rattle.vs_ring_port.specs.Contents.{RingContents}
 use Rattle.vs_device_parts.specs.{State.DeviceConnection, State.new_device}
-use Rattle.laws_device.{specs.{Honest.IsWith, Named.Streams.HasStreams}, proofs.{Turning.new_with, Named.Opening.new_has}}
+use Rattle.laws_walks.{specs.Named.Streams.HasStreams, proofs.Named.Opening.new_has}
+use Rattle.laws_device.{specs.Honest.IsWith, proofs.Turning.new_with}
 use Rattle.vs_limits.specs.declared.TheConstants.{DEVICE_CONNECTIONS}
 use Rattle.laws_proxy.{specs.Account.Told.AreAccounted, proofs.Account.Turning.new_accounted}
 use Rattle.vs_device.proofs.device.Device.new.Goals as goal

@@ -1,7 +1,7 @@
 use Rattle.std.proofs.Common.{sym, ap, subst, ◌∙◌}
 use Rattle.vs_device_parts.specs.{Playing.IsItsRing, State.counters_of}
 use Rattle.vs_proxy_parts.specs.{Handshakes.streams_of, State.ProxyState}
-use Rattle.laws_device.specs.Named.Streams.{HasStreams}
+use Rattle.laws_walks.specs.Named.Streams.{HasStreams}
 use Rattle.laws_proxy.{specs.{Account.Told.AreAccounted, Honest.{IsProxyStreamedSince, IsProxyWith}, Order.IsInOrder}, proofs.Growing.{flow_grow_accounted, flow_grow_counts}}
 use Rattle.laws_proxy.proofs.Growing.{flow_grow_order, flow_grow_ring, flow_grow_streamed, flow_grow_streams, flow_grow_with, flow_grown_same}
 use Rattle.vs_proxy.proofs.proxy.Proxy.grow.Goals as goal

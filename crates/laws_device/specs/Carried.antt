@@ -1,2 +1,0 @@
--- What the host's streams took and gave, against the packets of the device's log.
-pub mod Streamed

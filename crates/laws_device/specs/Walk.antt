@@ -1,2 +1,0 @@
--- What the conversations of device and proxy keep, over any ring and any host: each is walked once.
-pub mod Seen
