@@ -2,7 +2,7 @@
 //! yet (the receive buffer of Virtio 1.2, section 5.10.6.3, whose size is `buf_alloc`); and such a queue that knows where messages end.
 #![tactic(auto)]
 
-ghost use Rattle.std.specs.{Prelude.{◌≡◌, ◌+◌, ◌-◌, ◌≤◌, ◌==◌, [], ◌++◌, IfOk, drop, length, min, take}, Vec.vec_capacity};
+ghost use Rattle.std.specs.{Prelude.{◌≡◌, ◌+◌, ◌-◌, ◌≤◌, ◌==◌, [], ◌++◌, IfOk, drop, false, length, min, take, true}, Vec.vec_capacity};
 
 pub mod messages;
 
@@ -10,11 +10,16 @@ pub use messages::{Mark, MessageFifo};
 use std::alloc::{AllocError, Global};
 use std::marker::Model;
 
+/// Where at least so many bytes were taken out, and at least as many as are left, these are moved to the front, so that a queue that is never
+/// empty stays in the cache.
+const FAR: usize = 16_384;
+
 /// A queue of bytes that holds at most as many as it was made for. All its memory is taken when it is made: twice the bytes that it holds,
-/// so that each byte is moved at most once.
+/// so that no more bytes are moved than were taken out.
 #[derive(Drop)]
 pub struct ByteFifo {
-    // The bytes lie in one piece, from `start` to `end`; what is outside is left over. They move to the front where no more fit behind them.
+    // The bytes lie in one piece, from `start` to `end`; what is outside is left over. They move to the front where no more fit behind them,
+    // or many were taken out (`FAR`).
     bytes: Vec<u8>,
     start: usize,
     end: usize,
@@ -52,7 +57,7 @@ impl ByteFifo {
         requires { length self.old.bytes + length bytes.now ≤ self.old.capacity }
         ensures { self.new ≡ record self.old { bytes = self.old.bytes ++ bytes.now } }
     {
-        if self.bytes.capacity() - self.end < bytes.len() {
+        if is_to_move(self.start, self.end, self.bytes.capacity(), bytes.len()) {
             move_to_front(&mut self.bytes, self.start, self.end);
             self.end -= self.start;
             self.start = 0;
@@ -130,6 +135,17 @@ impl ByteFifo {
         self.start = 0;
         self.end = 0;
     }
+}
+
+// Whether the bytes from `start` to `end` are to be moved to the front before `more` come behind them, where there are so many places.
+fn is_to_move(start: usize, end: usize, places: usize, more: usize) -> bool
+    requires part { (start ≤ end) × (end ≤ places) }
+    requires half { (end + more) + (end + more) ≤ (start + start) + places }
+    ensures moves { result ≡ true → end ≤ start + start }
+    ensures stays { result ≡ false → end + more ≤ places }
+{
+    let went_far = start >= FAR && start >= end - start;
+    went_far || places - end < more
 }
 
 // Copies the bytes from `start` to `end` to the front, where they fit before `start`.

@@ -40,7 +40,8 @@ use vs_ring_port::{DeviceRing, Failure, Next, Queue};
 impl Device {
     /// Puts packets on the receive queue while chains are there: owed RSTs to unknown flows, oldest first, and then, from the slot after the one
     /// that last put a packet on, what is read of each connection's stream and what it owes. A stream is read only with a chain held and only
-    /// as far as the guest has credit for, the chain takes and one packet holds. At most one chain is held, also over calls.
+    /// as far as the guest has credit for, the chain takes and one packet holds. At most one chain is held, also over calls. What is read goes
+    /// through `buffer`, whatever that held before.
     ///
     /// Answers how many packets were put and how many bytes were read, or the ring's failure: one of this call, or the one that is kept
     /// of an earlier call (Virtio 1.2, sections 5.10.6.1 to 5.10.6.5).
