@@ -4,6 +4,7 @@
 pub mod calls;
 pub mod guests;
 pub mod receiving;
+mod resting;
 pub mod sending;
 pub mod steps;
 pub mod threads;

@@ -6,6 +6,7 @@ ghost use Rattle.laws_apps.specs.Runs.{IsRunOf};
 ghost use Rattle.vs_apps.specs.Guests.{run_in};
 
 use crate::guests::{Guests, RunName, laws_of_guests};
+use crate::resting::{Pace, RESTING, RESTING_AGAIN, Rest, STANDING, any_rests, end_rests, rests};
 use std::alloc::Global;
 use std::sync::atomic::{AtomicU64, Ordering};
 use std::sync::{Mutex, Wait};
@@ -30,41 +31,66 @@ pub trait Turning {
         ensures lent { lent self.new ≡ lent self.old };
 }
 
-// How an app goes on: how many steps it made, how many of these waited in a row, and whether it has ended.
-#[derive(Clone, Copy)]
-struct Pace {
-    steps: u64,
-    waits: u32,
-    ended: bool,
+/// So many further steps an app makes at most while its thread has the lock.
+const FURTHER: u32 = 15;
+
+// At which instruction an app is, where that hasn't asked for its connection.
+fn place_of<N: RunName>(guests: &Guests<N>, k: usize) -> Option<usize> {
+    let progress = guests.apps().get(k)?.progress;
+    if progress.asked {
+        None
+    } else {
+        Some(progress.at)
+    }
 }
 
-// Before the first step.
-const STANDING: Pace = Pace {
-    steps: 0,
-    waits: 0,
-    ended: false,
-};
-
-// A step under the lock.
+// A step under the lock, and at most so many further ones, as long as each moves bytes of the instruction that the first one was at.
 fn step_locked<W: Wait, N: RunName, G: Gate>(
     rt: &W,
     lock: &Mutex<Guests<N>>,
     k: usize,
+    steps: &mut u64,
+    further: u32,
     gate: &G,
 ) -> Stepped
     requires { k < length N.script }
 {
     let mut guests = lock.lock(rt);
+    let place = place_of(&guests, k);
+    for _ in 0..further {
+        gate.holding(k);
+        let stepped = guests.step(k).0;
+        if !matches!(stepped, Stepped::Moved) || place_of(&guests, k) != place {
+            return stepped;
+        }
+        *steps = steps.saturating_add(1);
+    }
     gate.holding(k);
     guests.step(k).0
 }
 
-// A step of an app, which ends where it is done, or waited so many steps in a row.
+// What comes of a step: the app ends where it is done, or waited so many steps in a row. It answers whether the app waits.
+fn count_step(pace: &mut Pace, stepped: Stepped, idle: u32) -> Result<bool, OutOfMemory> {
+    match stepped {
+        Stepped::Moved => pace.waits = 0,
+        Stepped::Done => pace.ended = true,
+        Stepped::OutOfMemory => return Err(OutOfMemory),
+        Stepped::Waiting(_) => {
+            pace.waits = pace.waits.saturating_add(1);
+            pace.ended = pace.waits >= idle;
+            return Ok(true);
+        }
+    }
+    Ok(false)
+}
+
+// The next steps of an app, with a pause where the last one waits.
 fn go_on<W: Wait, N: RunName, G: Gate>(
     rt: &W,
     lock: &Mutex<Guests<N>>,
     k: usize,
     pace: &mut Pace,
+    further: u32,
     idle: u32,
     gate: &mut G,
 ) -> Result<(), OutOfMemory>
@@ -72,21 +98,16 @@ fn go_on<W: Wait, N: RunName, G: Gate>(
 {
     pace.steps = pace.steps.saturating_add(1);
     gate.before(k, pace.steps);
-    match step_locked(rt, lock, k, gate) {
-        Stepped::Moved => pace.waits = 0,
-        Stepped::Done => pace.ended = true,
-        Stepped::OutOfMemory => return Err(OutOfMemory),
-        Stepped::Waiting(_) => {
-            pace.waits = pace.waits.saturating_add(1);
-            pace.ended = pace.waits >= idle;
-            gate.pause();
-        }
+    let stepped = step_locked(rt, lock, k, &mut pace.steps, further, gate);
+    if count_step(pace, stepped, idle)? {
+        gate.pause();
     }
     Ok(())
 }
 
-/// The steps of an app, each under the lock, until the app is done or waited `idle` steps in a row. `before`, `holding` and `pause` of the gate
-/// are called at each step.
+/// The steps of an app, under the lock, until the app is done or waited `idle` steps in a row. Up to 15 steps that only go on with the bytes of an
+/// instruction follow another under one lock. The gate's `before` is called each time before the lock is taken, `holding` at each step, `pause` at each
+/// that waits.
 ///
 /// The only error is want of memory.
 pub fn worker<W: Wait, N: RunName, G: Gate>(
@@ -100,12 +121,71 @@ pub fn worker<W: Wait, N: RunName, G: Gate>(
 {
     let mut pace = STANDING;
     for _ in rt.forever() {
-        go_on(rt, lock, k, &mut pace, idle, gate)?;
+        go_on(rt, lock, k, &mut pace, FURTHER, idle, gate)?;
         if pace.ended {
             return Ok(());
         }
     }
     unreachable!()
+}
+
+// The same for a thread that may rest.
+fn work_and_rest<W: Wait, N: RunName, G: Gate>(
+    rt: &W,
+    lock: &Mutex<Guests<N>>,
+    shared: &Shared,
+    rest: &Rest,
+    k: usize,
+    idle: u32,
+    gate: &mut G,
+) -> Result<(), OutOfMemory>
+    requires { k < length N.script }
+{
+    let mut pace = STANDING;
+    let mut awake = RESTING;
+    for _ in rt.forever() {
+        go_on(rt, lock, k, &mut pace, FURTHER, idle, gate)?;
+        if pace.waits == 0 {
+            awake = RESTING;
+        }
+        if !pace.ended && pace.waits >= awake {
+            pace = rest.begin(rt, &shared.over, pace);
+            awake = pace.waits.saturating_add(RESTING_AGAIN);
+        }
+        if pace.ended {
+            return Ok(());
+        }
+    }
+    unreachable!()
+}
+
+// A step of each app whose thread rests, where no other thread has the lock. The thread goes on where the app does, or has ended.
+fn step_resting<N: RunName>(
+    lock: &Mutex<Guests<N>>,
+    rests: &Vec<Rest>,
+    idle: u32,
+) -> Result<(), OutOfMemory>
+    requires { vec_len rests.now ≤ length N.script }
+{
+    if !any_rests(rests.as_slice()) {
+        return Ok(());
+    }
+    let Some(mut guests) = lock.try_lock() else {
+        return Ok(());
+    };
+    for k in 0..rests.len() {
+        let rest = &rests[k];
+        if rest.is_on() {
+            let mut pace = rest.pace();
+            pace.steps = pace.steps.saturating_add(1);
+            let waits = count_step(&mut pace, guests.step(k).0, idle)?;
+            rest.set_pace(pace);
+            if !waits || pace.ended {
+                rest.end();
+            }
+        }
+    }
+    Ok(())
 }
 
 // An app of which no thread could be started is the caller's own.
@@ -128,7 +208,7 @@ fn step_all_own<W: Wait, N: RunName, G: Gate>(
 {
     for k in 0..own.len() {
         if own[k].mine && !own[k].pace.ended {
-            go_on(rt, lock, k, &mut own[k].pace, idle, gate)?;
+            go_on(rt, lock, k, &mut own[k].pace, 0, idle, gate)?;
         }
     }
     Ok(())
@@ -145,24 +225,28 @@ fn own_ended(own: &[Own]) -> u64 {
     ended
 }
 
-// What the threads share beside the guests: how many workers have ended, and whether one wanted memory.
+// What the threads share beside the guests: how many workers have ended, whether one wanted memory, and whether no more turns are made.
 #[derive(Drop)]
 struct Shared {
     ended: AtomicU64,
     wants: AtomicU64,
+    over: AtomicU64,
 }
 
-// Turns until all apps have ended, with a step of each of the caller's own apps between turns.
+// Turns until all apps have ended, with a step of each of the caller's own apps between turns, and behind one that moved nothing of each app whose
+// thread rests. Where one moves something all threads go on.
 fn turn_all<W: Wait, N: RunName, D: Turning, G: Gate>(
     rt: &W,
     lock: &Mutex<Guests<N>>,
     shared: &Shared,
     own: &mut Vec<Own>,
+    rests: &Vec<Rest>,
     device: &mut D,
     idle: u32,
     gate: &mut G,
 ) -> Result<(), OutOfMemory>
-    requires { vec_len own.old ≤ length N.script }
+    requires own { vec_len own.old ≤ length N.script }
+    requires rests { vec_len rests.now ≤ length N.script }
     ensures lent { D.lent device.new ≡ D.lent device.old }
 {
     let mut turns = 0u64;
@@ -175,7 +259,10 @@ fn turn_all<W: Wait, N: RunName, D: Turning, G: Gate>(
         if ended >= own.len() as u64 {
             return Ok(());
         }
-        if !moved {
+        if moved {
+            end_rests(rests.as_slice());
+        } else {
+            step_resting(lock, rests, idle)?;
             gate.pause();
         }
     }
@@ -187,13 +274,18 @@ fn work<W: Wait, N: RunName, G: Gate>(
     rt: &W,
     lock: &Mutex<Guests<N>>,
     shared: &Shared,
+    rests: &Vec<Rest>,
     k: usize,
     idle: u32,
     gate: &mut G,
 )
     requires { k < length N.script }
 {
-    if worker(rt, lock, k, idle, gate).is_err() {
+    let done = match rests.get(k) {
+        Some(rest) => work_and_rest(rt, lock, shared, rest, k, idle, gate),
+        None => worker(rt, lock, k, idle, gate),
+    };
+    if done.is_err() {
         shared.wants.store(1, Ordering::SeqCst);
     }
     shared.ended.fetch_add(1, Ordering::SeqCst);
@@ -204,20 +296,23 @@ fn work_all<'x, W: Threads + Wait + Sync, N: RunName + Send, D: Turning, G: Gate
     rt: &'x W,
     lock: &'x Mutex<Guests<N>>,
     shared: &'x Shared,
+    rests: &'x Vec<Rest>,
     own: Vec<Own>,
     device: &mut D,
     idle: u32,
     gates: Vec<G>,
     gate: G,
 )
-    requires { vec_len own ≤ length N.script }
+    requires own { vec_len own ≤ length N.script }
+    requires rests { vec_len rests.now ≤ length N.script }
     ensures lent { D.lent device.new ≡ D.lent device.old }
 {
     let _device = thread::scope(
         thread::scope_env(),
         rt,
         move |scope|
-            requires { vec_len own ≤ length N.script }
+            requires own { vec_len own ≤ length N.script }
+            requires rests { vec_len rests.now ≤ length N.script }
             ensures same { result.ghost_name ≡ device.entry.ghost_name }
             ensures lent { D.lent result.now ≡ D.lent device.entry.now }
         {
@@ -232,15 +327,28 @@ fn work_all<'x, W: Threads + Wait + Sync, N: RunName + Send, D: Turning, G: Gate
                 let started = scope.spawn(
                     move ||
                         requires { k < length N.script }
-                    { work(rt, lock, shared, k, idle, &mut own_gate) },
+                    { work(rt, lock, shared, rests, k, idle, &mut own_gate) },
                 );
                 if started.is_err() {
                     own[k].mine = true;
                 }
             }
-            if turn_all(rt, lock, shared, &mut own, &mut *device, idle, &mut gate).is_err() {
+            if turn_all(
+                rt,
+                lock,
+                shared,
+                &mut own,
+                rests,
+                &mut *device,
+                idle,
+                &mut gate,
+            )
+            .is_err()
+            {
                 shared.wants.store(1, Ordering::SeqCst);
             }
+            shared.over.store(1, Ordering::SeqCst);
+            end_rests(rests.as_slice());
             device
         },
     );
@@ -248,8 +356,9 @@ fn work_all<'x, W: Threads + Wait + Sync, N: RunName + Send, D: Turning, G: Gate
 
 /// Runs all apps, each on a thread of its own, beside the device, which the caller's thread turns until all apps have ended: an app ends where
 /// it is done or waited `idle` steps in a row. Each thread takes a gate off the end of `gates`; an app that has none, or of which no thread
-/// could be started, is stepped by the caller between turns, with the caller's gate. The guests come out of their lock with all that their
-/// type says, and the device with what was lent to it.
+/// could be started, is stepped by the caller between turns, with the caller's gate; and so is one that waited 512 steps in a row, behind each turn
+/// that moved nothing, until something moves, while its thread rests: no gate is told of these steps. The guests come out of their lock with all that
+/// their type says, and the device with what was lent to it.
 ///
 /// The only error is want of memory.
 pub fn run_all<W: Threads + Wait + Sync, N: RunName + Send, D: Turning, G: Gate + Send + Drop>(
@@ -271,12 +380,16 @@ pub fn run_all<W: Threads + Wait + Sync, N: RunName + Send, D: Turning, G: Gate 
     }; count] else {
         return Err(OutOfMemory);
     };
+    let Ok(rests) = rests(alloc, count) else {
+        return Err(OutOfMemory);
+    };
     let lock = Mutex::new(guests);
     let shared = Shared {
         ended: AtomicU64::new(0),
         wants: AtomicU64::new(0),
+        over: AtomicU64::new(0),
     };
-    work_all(rt, &lock, &shared, own, device, idle, gates, gate);
+    work_all(rt, &lock, &shared, &rests, own, device, idle, gates, gate);
     if shared.wants.load(Ordering::SeqCst) != 0 {
         return Err(OutOfMemory);
     }

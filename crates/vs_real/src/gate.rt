@@ -95,11 +95,11 @@ impl<R: Clock> BackoffGate<R> {
 impl<R: Clock> Gate for BackoffGate<R> {
     ghost pauses = { λ g. g };
 
-    fn before(&self, app: usize, step: u64) {
+    fn before(&self, app: usize, step: u64) {}
+
+    fn holding(&self, app: usize) {
         self.count_step();
     }
-
-    fn holding(&self, app: usize) {}
 
     fn turned(&self, n: u64) {
         self.count_step();
