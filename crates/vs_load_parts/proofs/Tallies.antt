@@ -1,6 +1,6 @@
 -- How the counts of a load add up, and how matches do.
 use Rattle.std.proofs.{Common.{◌≡◌, ℕ, ◌+◌, ◌-◌, ◌^◌, min, List, [], ◌∷◌, ◌++◌, length, refl, sym, ap, ◌∙◌, arith}, lemmas.List.Elements.{All-head, All-tail}}
-use Rattle.std.{proofs.lemmas.{List.{flat_map_more, Sums.fold-append}, Bool.Decides.nat_tests}, specs.List.{All, flat_map, fold}}
+use Rattle.std.{proofs.lemmas.{Bool.Decides.nat_tests}, specs.List.{All, fold}}
 use Rattle.laws_driver.specs.Carried.Calls.{Journal, received_by}
 use Rattle.vs_apps_parts.specs.{Journals.{calls_of, sent_as}, Scripts.RunScript, declared.journal.Entry.Entry}
 use Rattle.vs_excerpt.specs.{Excerpt.excerpt_of, declared.Excerpt.Excerpt}
@@ -43,9 +43,11 @@ one_more journal t new o sent e count came all matched =
     let two : new.matched ≡ capped (t.matched + length (received_by o.id journal)) = matched ∙ ap (λ (x : Excerpt). capped (t.matched + x.count)) came in
     λ i. record { sent = one i; matched = two i }
 
--- The parts of one more.
-pub fold_next : {A B X : Type 0} (f : B → A → B) (g : X → List A) (a mid new : B) (xs xs' : List X) (x : X) → xs' ≡ xs ++ x ∷ []
-    → mid ≡ fold f a (flat_map g xs) → new ≡ fold f mid (g x) → new ≡ fold f a (flat_map g xs')
-fold_next {A} {B} {X} f g a mid new xs xs' x all before is =
-    is ∙ ap (λ (t : B). fold f t (g x)) before ∙ sym (fold-append f a (flat_map g xs) (g x))
-    ∙ ap (λ (ys : List A). fold f a ys) (flat_map_more g [] xs x) ∙ ap (λ (ks : List X). fold f a (flat_map g ks)) (sym all)
+-- In which order two connections are counted makes no difference.
+pub counts_free : (journal : Journal) (t : Tally) (x y : Opened) → counts journal (counts journal t x) y ≡ counts journal (counts journal t y) x
+counts_free journal t x y =
+    let sent : capped (capped (t.sent + length (sent_as x.id journal)) + length (sent_as y.id journal))
+    ≡ capped (capped (t.sent + length (sent_as y.id journal)) + length (sent_as x.id journal)) = omega arith in
+    let matched : capped (capped (t.matched + length (received_by x.id journal)) + length (received_by y.id journal))
+    ≡ capped (capped (t.matched + length (received_by y.id journal)) + length (received_by x.id journal)) = omega arith in
+    λ i. record { sent = sent i; matched = matched i }

@@ -1,9 +1,9 @@
 -- The line that a load prints, by the journal of its run.
-use Rattle.std.specs.{Prelude.{ℕ, ◌+◌, List, length}, List.fold}
+use Rattle.std.specs.{Prelude.{ℕ, ◌+◌, List, [], if◌then◌else◌, length, nat_lt}, List.fold}
 use Rattle.vs_page.specs.Fair.{IsPrefixOf}
 use Rattle.laws_driver.specs.Carried.Calls.{Journal, received_by}
 use Rattle.vs_apps_parts.specs.{Journals.{calls_of, sent_as}, Scripts.RunScript, declared.journal.Entry.Entry}
-use Rattle.vs_run_report.specs.{Connections.{capped, opened_all}, Load.{load_text, matches}, declared.connection.Opened.Opened}
+use Rattle.vs_run_report.specs.{Connections.{capped, listed, opened_all, opened_by}, Load.{load_text, matches}, declared.connection.Opened.Opened}
 use Rattle.vs_load_parts.specs.declared.tally.Tally.{Tally}
 
 -- Nothing is counted yet; and what one connection adds: the bytes that were sent on it, and the places where the byte that came back is the one
@@ -37,3 +37,7 @@ counts journal t o = record {
   sent = capped (t.sent + length (sent_as o.id journal));
   matched = capped (t.matched + length (received_by o.id journal));
 }
+
+-- The connection that an entry opened, where its app is one of so many.
+abbrev pub opened_next : ℕ → Entry → List Opened
+opened_next n e = if nat_lt e.app n then listed (opened_by e.app e) else []

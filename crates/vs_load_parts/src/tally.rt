@@ -2,8 +2,8 @@
 
 ghost use Rattle.std.specs.{Prelude.{◌≡◌, IfOk, length, string_bytes}, List.{All, fold}};
 ghost use Rattle.vs_apps_parts.specs.{Journals.calls_of, Scripts.script_of};
-ghost use Rattle.vs_run_report.specs.Connections.{listed, opened_all, opened_of};
-ghost use Rattle.vs_load_parts.specs.Line.{CameBack, counts, load_line, tally_of};
+ghost use Rattle.vs_run_report.specs.Connections.{listed, opened_all};
+ghost use Rattle.vs_load_parts.specs.Line.{CameBack, counts, load_line, no_tally, opened_next, tally_of};
 
 use std::alloc::{AllocError, Global};
 use vs_apps_parts::journal::{Entry, Journal};
@@ -41,28 +41,31 @@ fn add_opened(tally: Tally, opened: Option<Opened>, script: &[App], journal: &Jo
     }
 }
 
-// The tally with the connections that these entries of the app at a place opened.
-fn add_all_opened(
-    before: Tally,
-    app: usize,
-    script: &[App],
-    entries: &[Entry],
-    journal: &Journal,
-) -> Tally
-    ensures { result ≡ fold (counts (calls_of (script_of script.now) journal.now.bytes journal.now.entries)) before (opened_of app entries.now) }
+// The tally with the connection that an entry of the script's apps opened, if it did.
+fn add_entry(tally: Tally, entry: Entry, script: &[App], journal: &Journal) -> Tally
+    ensures { result ≡ fold (counts (calls_of (script_of script.now) journal.now.bytes journal.now.entries)) tally
+        (opened_next (length (script_of script.now)) entry) }
 {
-    let mut tally = before;
-    for entry in entries {
-        tally = add_opened(tally, opened_by(app, *entry), script, journal);
+    if entry.app < script.len() {
+        add_opened(tally, opened_by(entry.app, entry), script, journal)
+    } else {
+        tally
     }
-    tally
 }
 
-// The tally with the connections of the app at a place.
-fn add_app(before: Tally, app: usize, script: &[App], journal: &Journal) -> Tally
-    ensures { result ≡ fold (counts (calls_of (script_of script.now) journal.now.bytes journal.now.entries)) before (opened_of app journal.now.entries) }
+// The tally of the connections that these entries opened.
+fn add_all(script: &[App], entries: &[Entry], journal: &Journal) -> Tally
+    ensures { result ≡ fold (counts (calls_of (script_of script.now) journal.now.bytes journal.now.entries)) no_tally
+        (opened_all (length (script_of script.now)) entries.now) }
 {
-    add_all_opened(before, app, script, journal.entries(), journal)
+    let mut tally = Tally {
+        sent: 0,
+        matched: 0,
+    };
+    for entry in entries {
+        tally = add_entry(tally, *entry, script, journal);
+    }
+    tally
 }
 
 /// The bytes that were sent on all connections, and the places that match, by the journal, where what was received on each is a prefix of what was sent
@@ -72,14 +75,7 @@ pub fn tally_of(script: &[App], journal: &Journal) -> Tally
         (opened_all (length (script_of script.now)) journal.now.entries) }
     ensures { result ≡ tally_of (script_of script.now) journal.now.entries journal.now.bytes }
 {
-    let mut tally = Tally {
-        sent: 0,
-        matched: 0,
-    };
-    for k in 0..script.len() {
-        tally = add_app(tally, k, script, journal);
-    }
-    tally
+    add_all(script, journal.entries(), journal)
 }
 
 /// The line of a load with so many apps, by the journal, where what was received on each connection is a prefix of what was sent there. The only error
