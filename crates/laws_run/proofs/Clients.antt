@@ -3,19 +3,17 @@ use Rattle.std.proofs.Common.{◌≡◌, ◌<◌, ◌+◌, ◌-◌, ◌==◌, �
 use Rattle.std.proofs.lemmas.{Bool.Decides.nat_tests, List.{Folds.find_at, Sums.fails_before_first}, Option.{get_or_from_slice_get}}
 use Rattle.std.specs.{List.{All, find, position_or_len}, Option.{ForSome, is_none, option_map}}
 use Rattle.vs_flow.specs.{Table.Table, declared.flow.Flow.Flow}
-use Rattle.vs_limits.specs.declared.TheConstants.{HANDSHAKES}
+use Rattle.vs_limits.specs.declared.TheConstants.{FIRST_CID, HANDSHAKES}
 use Rattle.vs_outside.specs.{Host.{HostContents, Stream, is_waiting, stream_at}, HostProgram.{is_closed}}
 use Rattle.vs_flow.proofs.Entries.{found_passes}
 use Rattle.vs_page.specs.Log.{Log}
 use Rattle.vs_device_parts.specs.State.{DeviceConnection}
 use Rattle.vs_proxy_parts.specs.State.{Handshake, ProxyState}
-use Rattle.laws_device.specs.Carried.Streamed.{IsShaking, IsStreamed, Ports, Seen, connection_in, look, reading, seen}
+use Rattle.laws_device.specs.Carried.Streamed.{IsShaking, IsStreamed, Ports, Seen, connection_in, lasting, look, ports_of, reading, seen}
 use Rattle.laws_device.proofs.Carried.Hosts.{none_labelled, there}
-use Rattle.vs_limits.specs.declared.TheConstants.{FIRST_CID}
 use Rattle.vs_ring_shared.specs.Sights.{DeviceSight, Sight, device_contents}
 use Rattle.vs_driver_parts.specs.State.{DriverState}
 use Rattle.vs_device_parts.specs.Playing.{situation}
-use Rattle.laws_device.specs.Carried.Streamed.{lasting, ports_of}
 use Rattle.laws_proxy.specs.Honest.{IsProxyStreamedSince}
 use Rattle.laws_settled.specs.Settled.{IsSettled}
 use Rattle.laws_run.proofs.Wrote.{streamed_since}
