@@ -242,3 +242,20 @@ fn apps_wait_for_bytes_for_credit_and_for_a_client(rt: HostRuntime) -> Result<()
     assert!(rt; end_always(&rt, &WAITS)?);
     Ok(())
 }
+
+/// An app that waits long enough for its thread to rest, beside one that is done.
+const RESTS: [(Stream, Case<'static>); 1] = [(
+    ("ab", true, None),
+    (
+        "app\nlisten 70\naccept 70\nclose\napp\nconnect 52\nsend fill 65536 3\nshutdown 2\ndrain\nclose\n",
+        5,
+        "app 1 waited 2000 none at 2\napp 2 done\nconn 1024 52 sent 65536 received 2 6162\n",
+        NONE_OPEN,
+    ),
+)];
+
+#[test]
+fn an_app_whose_thread_rests_gives_up(rt: HostRuntime) -> Result<(), Fail> {
+    assert!(rt; end(&rt, "vsock run --base v.sock --idle 2000", &RESTS, 2)?);
+    Ok(())
+}

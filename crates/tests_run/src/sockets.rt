@@ -9,6 +9,7 @@ use std::os::unix::net::UnixListener;
 use std::sync::Wait;
 use std::test::Fail;
 use std::thread::{self, Threads};
+use std::time::{Clock, Duration};
 use tests_support::NONE_OPEN;
 use vs_real::UnixHost;
 
@@ -54,12 +55,13 @@ fn an_app_and_a_plain_listener(rt: HostRuntime) -> Result<(), Fail> {
     Ok(())
 }
 
-/// How a client of the guest's port 70 ends that begins once an app has reached this listener.
-fn client<R: AllocGlobal + Threads + Wait + Sync + Net + Files + Clone + Drop>(
+/// How a client of the guest's port 70 ends that begins some time after an app has reached this listener.
+fn client<R: AllocGlobal + Threads + Wait + Sync + Net + Files + Clock + Clone + Drop>(
     rt: &R,
     listener: UnixListener,
 ) -> io::Result<Ended> {
     let _ = listener.accept()?;
+    thread::sleep(rt, Duration::from_millis(20));
     over_sockets(
         rt,
         "vsock peer --base guest.sock --port 70 --idle 1000000",
@@ -68,7 +70,8 @@ fn client<R: AllocGlobal + Threads + Wait + Sync + Net + Files + Clone + Drop>(
     )
 }
 
-/// A client of the host asks for a port that an app listens on. The app says that it does by another connection.
+/// A client of the host asks for a port that an app listens on. The app says that it does by another connection, and has waited so long when the
+/// client comes that its thread rests.
 #[test]
 fn a_client_and_a_listening_app(rt: HostRuntime) -> Result<(), Fail> {
     let listener = UnixListener::bind(&rt, "guest.sock_52")?;
@@ -78,7 +81,7 @@ fn a_client_and_a_listening_app(rt: HostRuntime) -> Result<(), Fail> {
         &rt,
         "vsock run --base guest.sock --idle 1000000",
         "app\nlisten 70\nconnect 52\nclose\naccept 70\nrecv 5\nsend 776f726c64\nclose\n",
-        0,
+        1,
     )?;
     let client = client.join(&rt)?;
     fs::remove_file(&rt, "guest.sock_52")?;

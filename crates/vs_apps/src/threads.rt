@@ -31,8 +31,8 @@ pub trait Turning {
         ensures lent { lent self.new ≡ lent self.old };
 }
 
-/// So many further steps an app makes at most while its thread has the lock.
-const FURTHER: u32 = 15;
+/// So many further steps an app makes at most while its thread has the lock, and no more than there are other apps, which may wait for it.
+const FURTHER: usize = 15;
 
 // At which instruction an app is, where that hasn't asked for its connection.
 fn place_of<N: RunName>(guests: &Guests<N>, k: usize) -> Option<usize> {
@@ -50,14 +50,15 @@ fn step_locked<W: Wait, N: RunName, G: Gate>(
     lock: &Mutex<Guests<N>>,
     k: usize,
     steps: &mut u64,
-    further: u32,
+    further: usize,
     gate: &G,
 ) -> Stepped
     requires { k < length N.script }
 {
     let mut guests = lock.lock(rt);
     let place = place_of(&guests, k);
-    for _ in 0..further {
+    let others = guests.count().saturating_sub(1);
+    for _ in 0..further.min(others) {
         gate.holding(k);
         let stepped = guests.step(k).0;
         if !matches!(stepped, Stepped::Moved) || place_of(&guests, k) != place {
@@ -90,7 +91,7 @@ fn go_on<W: Wait, N: RunName, G: Gate>(
     lock: &Mutex<Guests<N>>,
     k: usize,
     pace: &mut Pace,
-    further: u32,
+    further: usize,
     idle: u32,
     gate: &mut G,
 ) -> Result<(), OutOfMemory>
@@ -106,7 +107,7 @@ fn go_on<W: Wait, N: RunName, G: Gate>(
 }
 
 /// The steps of an app, under the lock, until the app is done or waited `idle` steps in a row. Up to 15 steps that only go on with the bytes of an
-/// instruction follow another under one lock. The gate's `before` is called each time before the lock is taken, `holding` at each step, `pause` at each
+/// instruction, and no more than there are other apps, follow another under one lock. The gate's `before` is called each time before the lock is taken, `holding` at each step, `pause` at each
 /// that waits.
 ///
 /// The only error is want of memory.
