@@ -44,12 +44,13 @@ fn place_of<N: RunName>(guests: &Guests<N>, k: usize) -> Option<usize> {
     }
 }
 
-// A step under the lock, and at most so many further ones, as long as each moves bytes of the instruction that the first one was at.
+// A step under the lock, and at most so many further ones, as long as each moves bytes of the instruction that the first one was at. Where one
+// moved, the steps that waited before it are none in a row.
 fn step_locked<W: Wait, N: RunName, G: Gate>(
     rt: &W,
     lock: &Mutex<Guests<N>>,
     k: usize,
-    steps: &mut u64,
+    pace: &mut Pace,
     further: usize,
     gate: &G,
 ) -> Stepped
@@ -64,7 +65,8 @@ fn step_locked<W: Wait, N: RunName, G: Gate>(
         if !matches!(stepped, Stepped::Moved) || place_of(&guests, k) != place {
             return stepped;
         }
-        *steps = steps.saturating_add(1);
+        pace.waits = 0;
+        pace.steps = pace.steps.saturating_add(1);
     }
     gate.holding(k);
     guests.step(k).0
@@ -99,16 +101,16 @@ fn go_on<W: Wait, N: RunName, G: Gate>(
 {
     pace.steps = pace.steps.saturating_add(1);
     gate.before(k, pace.steps);
-    let stepped = step_locked(rt, lock, k, &mut pace.steps, further, gate);
+    let stepped = step_locked(rt, lock, k, pace, further, gate);
     if count_step(pace, stepped, idle)? {
         gate.pause();
     }
     Ok(())
 }
 
-/// The steps of an app, under the lock, until the app is done or waited `idle` steps in a row. Up to 15 steps that only go on with the bytes of an
-/// instruction, and no more than there are other apps, follow another under one lock. The gate's `before` is called each time before the lock is taken, `holding` at each step, `pause` at each
-/// that waits.
+/// The steps of an app, under the lock, until the app is done or waited `idle` steps in a row. Up to 15 steps that only go on with the bytes of
+/// an instruction, and no more than there are other apps, follow another under one lock. The gate's `before` is called each time before the lock
+/// is taken, `holding` at each step, `pause` at each that waits.
 ///
 /// The only error is want of memory.
 pub fn worker<W: Wait, N: RunName, G: Gate>(
