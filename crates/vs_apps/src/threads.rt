@@ -44,36 +44,9 @@ fn place_of<N: RunName>(guests: &Guests<N>, k: usize) -> Option<usize> {
     }
 }
 
-// A step under the lock, and at most so many further ones, as long as each moves bytes of the instruction that the first one was at. Where one
-// moved, the steps that waited before it are none in a row.
-fn step_locked<W: Wait, N: RunName, G: Gate>(
-    rt: &W,
-    lock: &Mutex<Guests<N>>,
-    k: usize,
-    pace: &mut Pace,
-    further: usize,
-    gate: &G,
-) -> Stepped
-    requires { k < length N.script }
-{
-    let mut guests = lock.lock(rt);
-    let place = place_of(&guests, k);
-    let others = guests.count().saturating_sub(1);
-    for _ in 0..further.min(others) {
-        gate.holding(k);
-        let stepped = guests.step(k).0;
-        if !matches!(stepped, Stepped::Moved) || place_of(&guests, k) != place {
-            return stepped;
-        }
-        pace.waits = 0;
-        pace.steps = pace.steps.saturating_add(1);
-    }
-    gate.holding(k);
-    guests.step(k).0
-}
-
 // What comes of a step: the app ends where it is done, or waited so many steps in a row. It answers whether the app waits.
 fn count_step(pace: &mut Pace, stepped: Stepped, idle: u32) -> Result<bool, OutOfMemory> {
+    pace.steps = pace.steps.saturating_add(1);
     match stepped {
         Stepped::Moved => pace.waits = 0,
         Stepped::Done => pace.ended = true,
@@ -85,6 +58,33 @@ fn count_step(pace: &mut Pace, stepped: Stepped, idle: u32) -> Result<bool, OutO
         }
     }
     Ok(false)
+}
+
+// A step under the lock, and at most so many further ones, as long as each moves bytes of the instruction that the first one was at. It answers
+// whether the app waits.
+fn step_locked<W: Wait, N: RunName, G: Gate>(
+    rt: &W,
+    lock: &Mutex<Guests<N>>,
+    k: usize,
+    pace: &mut Pace,
+    further: usize,
+    idle: u32,
+    gate: &G,
+) -> Result<bool, OutOfMemory>
+    requires { k < length N.script }
+{
+    let mut guests = lock.lock(rt);
+    let place = place_of(&guests, k);
+    let others = guests.count().saturating_sub(1);
+    for _ in 0..further.min(others) {
+        gate.holding(k);
+        let waits = count_step(pace, guests.step(k).0, idle)?;
+        if waits || pace.ended || place_of(&guests, k) != place {
+            return Ok(waits);
+        }
+    }
+    gate.holding(k);
+    count_step(pace, guests.step(k).0, idle)
 }
 
 // The next steps of an app, with a pause where the last one waits.
@@ -99,10 +99,8 @@ fn go_on<W: Wait, N: RunName, G: Gate>(
 ) -> Result<(), OutOfMemory>
     requires { k < length N.script }
 {
-    pace.steps = pace.steps.saturating_add(1);
-    gate.before(k, pace.steps);
-    let stepped = step_locked(rt, lock, k, pace, further, gate);
-    if count_step(pace, stepped, idle)? {
+    gate.before(k, pace.steps.saturating_add(1));
+    if step_locked(rt, lock, k, pace, further, idle, gate)? {
         gate.pause();
     }
     Ok(())
@@ -180,7 +178,6 @@ fn step_resting<N: RunName>(
         let rest = &rests[k];
         if rest.is_on() {
             let mut pace = rest.pace();
-            pace.steps = pace.steps.saturating_add(1);
             let waits = count_step(&mut pace, guests.step(k).0, idle)?;
             rest.set_pace(pace);
             if !waits || pace.ended {
