@@ -3,7 +3,7 @@
 use crate::running::{are_printed, played};
 use std::alloc::{AllocError, Global};
 use std::test::Fail;
-use tests_support::{COUNTED, HOSTILE_COUNTED};
+use tests_support::{COUNTED, HOSTILE_COUNTED, before_end};
 
 /// Each kind of rings.
 const KINDS: [&str; 3] = [
@@ -85,10 +85,9 @@ fn twenty_thousand_lines_over_eight_shared_pages(rt: HostRuntime) -> Result<(), 
     )?;
     assert!(rt;
         status == 0
-            && sink
-                .bytes()
-                .strip_suffix(COUNTED.as_bytes())
-                .is_some_and(|bytes: &[u8]| bytes.ends_with(LONG_ENDS.as_bytes()))
+            && before_end(sink.bytes(), COUNTED).is_some_and(|bytes: &[u8]| bytes.ends_with(
+                LONG_ENDS.as_bytes()
+            ))
     );
     Ok(())
 }

@@ -5,7 +5,7 @@ ghost use Rattle.std.specs.Prelude.{◌≤◌};
 use std::alloc::{AllocError, AllocGlobal};
 use std::sync::Wait;
 use std::thread::Threads;
-use tests_support::words_of;
+use tests_support::{before_end, words_of};
 use vs_outside::{FreeGate, MemSink, MemSource, PeerHost, StepClock};
 use vs_run::vsock_main;
 
@@ -53,10 +53,7 @@ pub fn ends<R: AllocGlobal + Wait + Threads + Sync>(
     requires piece { 1 ≤ piece }
 {
     let (ended, sink) = played(rt, line, script, piece)?;
-    Ok(
-        ended == status
-            && sink.bytes().strip_suffix(printed.1.as_bytes()) == Some(printed.0.as_bytes()),
-    )
+    Ok(ended == status && before_end(sink.bytes(), printed.1) == Some(printed.0.as_bytes()))
 }
 
 /// Whether each of these scripts, played by each of these command lines, ends with status 0 and prints its text and then that last line.

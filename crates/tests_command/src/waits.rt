@@ -5,7 +5,7 @@ use std::alloc::{AllocError, AllocGlobal, Global};
 use std::sync::Wait;
 use std::test::Fail;
 use std::thread::Threads;
-use tests_support::COUNTED;
+use tests_support::{COUNTED, before_end};
 
 /// These texts, each so many times.
 fn script_of(alloc: Global, texts: &[(u16, &str)]) -> Result<String, AllocError> {
@@ -27,7 +27,7 @@ fn ends_with<R: AllocGlobal + Wait + Threads + Sync>(
 ) -> Result<bool, AllocError> {
     let script = script_of(rt.alloc(), texts)?;
     let (status, sink) = played(rt, line, script.as_str(), 4_096)?;
-    match sink.bytes().strip_suffix(COUNTED.as_bytes()) {
+    match before_end(sink.bytes(), COUNTED) {
         Some(bytes) => Ok(status == 0 && bytes.ends_with(last.as_bytes())),
         None => Ok(false),
     }

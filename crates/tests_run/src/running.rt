@@ -4,7 +4,7 @@ use crate::gate::YieldGate;
 use std::alloc::{AllocError, AllocGlobal, Global};
 use std::sync::Wait;
 use std::thread::Threads;
-use tests_support::words_of;
+use tests_support::{before_end, words_of};
 use vs_header::Kind;
 use vs_outside::{HostNet, MemHost, MemSink, MemSource, StepClock};
 use vs_run::vsock_main;
@@ -22,8 +22,7 @@ pub struct Ended {
 impl Ended {
     /// Whether it ended so.
     pub fn is(&self, status: u8, printed: &str, last: &str) -> bool {
-        self.status == status
-            && self.sink.bytes().strip_suffix(last.as_bytes()) == Some(printed.as_bytes())
+        self.status == status && before_end(self.sink.bytes(), last) == Some(printed.as_bytes())
     }
 }
 
