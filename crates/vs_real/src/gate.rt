@@ -4,16 +4,16 @@ ghost use Rattle.std.specs.Prelude.{◌≡◌};
 use crate::moves::Moves;
 use std::cell::Cell;
 use std::marker::Model;
-use std::time::{Clock, Duration};
-use std::{hint, thread};
+use std::thread;
+use std::time::{Clock, Duration, Instant};
 use vs_outside::Gate;
 
 /// So many pauses in a row keep the processor and look again after a moment: a sleep takes longer than it is asked for, and where the other
 /// side moves soon that would be the longer wait.
 const LOOKS: u32 = 256;
 
-/// How often such a pause tells the processor that it waits.
-const SPINS: u32 = 16;
+/// How often such a pause reads the clock, which takes about a microsecond in all.
+const READINGS: u32 = 16;
 
 /// So many pauses behind them give up the processor at once, for a microsecond, which is as short as the system's clock allows.
 const SHORT_PAUSES: u32 = 16;
@@ -111,17 +111,18 @@ impl<R: Clock> Gate for BackoffGate<R> {
             self.row = 0;
         }
         match self.row.checked_sub(LOOKS) {
-            None => look_again(),
+            None => look_again(&self.rt),
             Some(row) => thread::sleep(&self.rt, rest_behind(row)),
         }
         self.row = self.row.saturating_add(1);
     }
 }
 
-// A moment in which the processor is kept.
-fn look_again() {
-    for _ in 0..SPINS {
-        hint::spin_loop();
+// A moment in which the processor is kept, and no memory is touched that another thread writes: a thread that looks as often as it can takes
+// from the others what they write, and holds them up. (`spin_loop` is no instruction here.)
+fn look_again<R: Clock>(rt: &R) {
+    for _ in 0..READINGS {
+        let _ = Instant::now(rt);
     }
 }
 

@@ -15,8 +15,8 @@ use vs_flow::Flow;
 use vs_outside::{Accepted, Dialed, HostNet, Started, StreamRead, StreamWrite};
 
 /// A host over Unix sockets, none of which waits. A read or a write makes at most one system call on its socket, behind a poll where it was
-/// told of the last one, and none where that poll showed that nothing can be there. While bytes move an accept polls once in 16 calls, so that
-/// a busy device makes a poll in 16 turns. Each error is a fault, and is counted; of accepts that fail in a row, one.
+/// told of the last one, and none where that poll showed that nothing can be there. While bytes move an accept polls once in 64 calls, so that
+/// a busy device makes a poll in 64 turns. Each error is a fault, and is counted; of accepts that fail in a row, one.
 ///
 /// A stream is read ahead, by up to 32,416 bytes, for which it takes room when it is accepted or dialed. They are given by the next reads, and
 /// are lost with the stream.

@@ -26,7 +26,7 @@ const STREAMS: usize = 128;
 
 /// So many accepts in a row are answered without a poll while bytes move: one poll then serves so many turns, and a client waits that much
 /// longer.
-const PUT_OFF: u32 = 15;
+const PUT_OFF: u32 = 63;
 
 /// The listener's token. A stream's is its id, which is at least 1.
 const LISTENER: Token = Token(0);
@@ -113,7 +113,7 @@ impl Sockets {
         self.moved = true;
     }
 
-    /// Accepts a client that waits. While bytes move it polls in one call of 16 alone. Where accepts fail in a row only the first answers so,
+    /// Accepts a client that waits. While bytes move it polls in one call of 64 alone. Where accepts fail in a row only the first answers so,
     /// and the others that nobody waits.
     pub fn accept(&mut self) -> Accepted {
         match self.clients.ask(self.polls) {

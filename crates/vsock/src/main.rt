@@ -55,13 +55,8 @@ fn outside<R: AllocGlobal + Env + Net + Files + Clock + Clone + Drop>(
 > {
     let host = UnixHost::new(rt.clone()?)?;
     let gate = BackoffGate::beside(rt.clone()?, host.moves()?);
-    Ok((
-        words(rt)?,
-        host,
-        MachineClock::new(rt.clone()?)?,
-        gate,
-        gates(rt)?,
-    ))
+    let clock = MachineClock::beside(rt.clone()?, host.moves()?)?;
+    Ok((words(rt)?, host, clock, gate, gates(rt)?))
 }
 
 /// The gates of a run.
