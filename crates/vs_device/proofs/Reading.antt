@@ -1,17 +1,18 @@
 -- What reading a stream comes to, for the packet that it puts.
-use Rattle.std.proofs.Common.{◌≡◌, ℕ, ◌+◌, ◌≤◌, ◌<◌, arith, Bool, true, false, cond, List, length, take, Option, Some, None, refl, sym, ap, subst, ◌∙◌}
+use Rattle.std.proofs.Common.{◌≡◌, ℕ, ◌+◌, ◌≤◌, ◌<◌, arith, ◌||◌, ◌⊎◌, inl, inr, Bool, true, false, not, cond, List, length, take, Option, Some, None, refl, sym, ap, subst, ◌∙◌}
 use Rattle.std.{proofs.lemmas.{List.length-take-le, Bool.Decides.nat_tests}, specs.{Prelude.{if◌then◌else◌, ◌==◌}, Option.{IfSome, IsSomeAnd, option_map}}}
 use Rattle.vs_contents.{specs.CallTree.{Done, Ask, bind, while_up_to}, proofs.{Leads.{leads_of, leads_bind}, Conditions.{may_first, may_rest, may_of}}}
 use Rattle.vs_conn.specs.{End.{ConnectionEnd, owes_of, with_payload_sent, wanting_credit}, Headers.payload_header}
 use Rattle.vs_header.specs.declared.{TheConstants.HEADER_LEN, Header.Header}
 use Rattle.vs_page.specs.declared.page.TheConstants.{PAYLOAD_MAX}
 use Rattle.vs_credit.specs.Credit.{free_of}
-use Rattle.vs_flow.specs.Table.{Table, entry_under, value_under}
+use Rattle.vs_flow.specs.Table.{Table, IsTable, entry_under, value_under}
 use Rattle.vs_outside.specs.{Host.ReadsSome, InOut.MovesSome, declared.host_net.StreamRead.StreamRead}
 use Rattle.vs_ring_port.specs.declared.device_ring.Chain.{Chain}
 use Rattle.vs_device_parts.specs.Receiving.{Filling, hold, written, put_on, put_owed, put_payload, may_read, read_room, read_answered, read_with_chain, read_stream, serve_slot}
 use Rattle.vs_device_parts.specs.{Calls.{DeviceTree, Situation, Allows, ReadStream}, Connections.{with_connection, route_to_guest}, Filling.read_slot, Playing.{CanMake, MayRun}}
-use Rattle.vs_device_parts.specs.{Playing.Runs, State.{DeviceConnection, DeviceEntry, DeviceState}, Steps.{filling, puts_payload, reads, to_read}, Served.{OnlyReads, Reads, Rests}}
+use Rattle.vs_device_parts.specs.{Playing.Runs, State.{DeviceConnection, DeviceEntry, DeviceState}, Steps.{filling, puts_payload, reads, to_read}, Served.{OnlyReads, Reads, Rests, WaitsForCredit}}
+use Rattle.vs_device_parts.proofs.Under.{with_value_again}
 use Rattle.vs_limits.specs.declared.TheConstants.{OWED_MAX}
 use Rattle.vs_outside.specs.declared.host_net.StreamRead.TheVariants as read
 
@@ -60,6 +61,18 @@ module _ (chain : Chain) (e : DeviceEntry) (q : Filling) (held : q.state.chain �
 -- a connection without credit wants some, one with credit needs a chain
 abbrev want : DeviceEntry → DeviceState → DeviceState
 want e s = with_connection e.slot (record e.value { end = wanting_credit e.value.end }) s
+
+-- one that has asked for credit stays as it is
+asked_already : (e : ConnectionEnd) → e.credit_asked ≡ true → wanting_credit e ≡ e
+asked_already e asked = λ i. record e { credit_asked = sym asked i; credit_request_owed = owed i }
+  where
+    owed : (e.credit_request_owed || not e.credit_asked) ≡ e.credit_request_owed
+    owed = rw asked (elim e.credit_request_owed as (λ b. (b || false) ≡ b) [ true ↦ refl | false ↦ refl ])
+
+wants_again : (slot : ℕ) (s : DeviceState) (e : DeviceEntry) → IsTable s.table → entry_under s.table slot ≡ Some e → e.value.end.credit_asked ≡ true → want e s ≡ s
+wants_again slot s e sound found asked =
+    ap (λ (x : ConnectionEnd). with_connection e.slot (record e.value { end = x }) s) (asked_already e.value.end asked)
+    ∙ ap (λ (t : Table DeviceConnection). let u : DeviceState = record s { table = t } in u) (with_value_again s.table slot e sound found)
 
 pub record IsToRead (slot : ℕ) (s t : DeviceState) : Type 0 where
   pub entry : DeviceEntry
@@ -214,16 +227,25 @@ module _ (slot : ℕ) (r : Filling) (going : r.over ≡ false) where
   rests_is None is rest = rw going (rw (is, put_owed) refl)
   rests_is (Some e) is rest = owes_nothing r e r.over is rest.owes
 
-  reads_none : (o : Option DeviceEntry) → entry_under r.state.table slot ≡ o → IfSome (option_map (λ (e : DeviceEntry). e.value) o) Rests
-      → read_slot slot r ≡ Done r
-  reads_none None is rest = rw (is, read_slot) refl
-  reads_none (Some e) is rest = rw (is, read_slot) (rw (rest.reads, read_stream) refl)
+  read_at_rest : (e : DeviceEntry) (reads : Bool) → IsTable r.state.table → entry_under r.state.table slot ≡ Some e → may_read e.value.end e.value.end.state ≡ reads
+      → (reads ≡ false) ⊎ WaitsForCredit e.value → read_slot slot r ≡ Done r
+  read_at_rest e false sound found reads rest = rw (found, read_slot) (rw (reads, read_stream) refl)
+  read_at_rest e true sound found reads (inl isnt) = absurd (true_false isnt)
+  read_at_rest e true sound found reads (inr waits) =
+      let none : (free_of e.value.end.credit == 0) ≡ true = grind (arith, nat_tests, waits.none) in
+      rw (found, read_slot) (rw (reads, none, read_stream) (ap (λ (s : DeviceState). let tree : DeviceTree Filling = Done (record r { state = s }) in tree)
+      (wants_again slot r.state e sound found waits.asked)))
 
-  pub served_at_rest : (c : Situation) → IfSome (value_under r.state.table slot) Rests
+  reads_none : (o : Option DeviceEntry) → IsTable r.state.table → entry_under r.state.table slot ≡ o
+      → IfSome (option_map (λ (e : DeviceEntry). e.value) o) Rests → read_slot slot r ≡ Done r
+  reads_none None sound is rest = rw (is, read_slot) refl
+  reads_none (Some e) sound is rest = read_at_rest e (may_read e.value.end e.value.end.state) sound is refl rest.reads_not
+
+  pub served_at_rest : (c : Situation) → IsTable r.state.table → IfSome (value_under r.state.table slot) Rests
       → Runs (serve_slot slot r) c r c
-  served_at_rest c rest =
+  served_at_rest c sound rest =
       let o = entry_under r.state.table slot in
-      serves r r c c c (leads_of Allows _ _ c c r (reads_none o refl rest) (refl, refl)) (leads_of Allows _ _ c c r (rests_is o refl rest) (refl, refl))
+      serves r r c c c (leads_of Allows _ _ c c r (reads_none o sound refl rest) (refl, refl)) (leads_of Allows _ _ c c r (rests_is o refl rest) (refl, refl))
 
 pub if_some : {X : Type 0} (o : Option X) (x : X) (P : X → Type 0) → o ≡ Some x → P x → IfSome o P
 if_some {X = X} o x P is holds = let Q : Option X → Type 0 = λ p. IfSome p P in subst Q (sym is) holds

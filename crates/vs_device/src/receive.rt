@@ -6,7 +6,7 @@ ghost use Rattle.std.specs.Option.{ForSome};
 ghost use Rattle.vs_conn.specs.{End.{CanSend, owes_of}, Headers.reset_header};
 ghost use Rattle.vs_contents.specs.CallTree.{for_each, while_up_to};
 ghost use Rattle.vs_credit.specs.Credit.{free_of};
-ghost use Rattle.vs_flow.specs.Table.{entry_under, value_under};
+ghost use Rattle.vs_flow.specs.Table.{IsTable, entry_under, value_under};
 ghost use Rattle.vs_header.specs.declared.TheConstants.{HEADER_LEN};
 ghost use Rattle.vs_outside.specs.Host.{ReadsSome};
 ghost use Rattle.vs_page.specs.declared.page.TheConstants.{PAYLOAD_MAX};
@@ -214,7 +214,8 @@ impl Device {
     // What the round does on the connection in a slot, as far as one look at it tells.
     #[inline(always)]
     fn service(&self, slot: Slot, place: usize) -> Service
-        ensures { IsServedSo (value_under self.now.table slot) result }
+        ensures served { IsServedSo (value_under self.now.table slot) result }
+        ensures sound { IsTable self.now.table }
     {
         self.slots.service(slot, place)
     }

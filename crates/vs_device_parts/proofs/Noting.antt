@@ -1,5 +1,5 @@
 -- The notes that are kept beside the table: what one says of its connection, and what putting another one changes.
-use Rattle.std.proofs.Common.{◌≡◌, ℕ, zero, suc, ◌+◌, ◌<◌, ◌≤◌, ◌==◌, ◌++◌, set, take, drop, Bool, true, false, cond, not, is_some, List, [], ◌∷◌, length, map, get_or, Option, Some, None, Result, Ok, Err, refl, sym, ap}
+use Rattle.std.proofs.Common.{◌≡◌, ℕ, zero, suc, ◌+◌, ◌<◌, ◌≤◌, ◌==◌, ◌++◌, set, take, drop, inl, inr, Bool, true, false, cond, not, is_some, List, [], ◌∷◌, length, map, get_or, Option, Some, None, Result, Ok, Err, refl, sym, ap}
 use Rattle.std.proofs.{Common.{subst, ◌∙◌, arith}, lemmas.{Bool.Decides.nat_tests, Cmp.ranked, List.{get_or-map, length-map, take_more, Sums.position_or_len_is}}}
 use Rattle.std.proofs.lemmas.Option.{get_or_from_slice_get, slice_get-map, slice_get_within}
 use Rattle.std.proofs.Math.Seq.{take-append_seam, take-length}
@@ -20,16 +20,18 @@ abbrev no_note : Note
 no_note = record { slot = 0; service = service.Nothing; writes = false }
 
 -- what a note says of its connection
-served_by : (c : DeviceConnection) (o : Option Owed) (r f : Bool) → owes_of c.end ≡ o → may_read c.end c.end.state ≡ r → (free_of c.end.credit == 0) ≡ f
-    → IsServedSo (Some c) (cond (is_some o) service.Owed (cond (not r) service.Nothing (cond f service.Owed (service.Read c.stream (free_of c.end.credit)))))
-served_by c (Some what) r f owes reads free = tt
-served_by c None false f owes reads free = record { owes = owes; reads = reads }
-served_by c None true true owes reads free = tt
-served_by c None true false owes reads free =
+served_by : (c : DeviceConnection) (o : Option Owed) (r f a : Bool) → owes_of c.end ≡ o → may_read c.end c.end.state ≡ r → (free_of c.end.credit == 0) ≡ f
+    → c.end.credit_asked ≡ a → (let so : Service = cond f (cond a service.Nothing service.Owed) (service.Read c.stream (free_of c.end.credit)) in
+    IsServedSo (Some c) (cond (is_some o) service.Owed (cond (not r) service.Nothing so)))
+served_by c (Some what) r f a owes reads free asked = tt
+served_by c None false f a owes reads free asked = record { owes = owes; reads_not = inl reads }
+served_by c None true true true owes reads free asked = record { owes = owes; reads_not = inr (record { none = grind (arith, nat_tests, free); asked = asked }) }
+served_by c None true true false owes reads free asked = tt
+served_by c None true false a owes reads free asked =
     record { owes = owes; reads = record { reads = reads; some = grind (arith, nat_tests, free); stream_is = refl; credit_is = refl } }
 
 served_so : (c : DeviceConnection) → IsServedSo (Some c) (service_of c)
-served_so c = served_by c (owes_of c.end) (may_read c.end c.end.state) (free_of c.end.credit == 0) refl refl refl
+served_so c = served_by c (owes_of c.end) (may_read c.end c.end.state) (free_of c.end.credit == 0) c.end.credit_asked refl refl refl refl
 
 -- the entry of which a note is
 record IsOf (t : Table DeviceConnection) (place : ℕ) (n : Note) : Type 0 where

@@ -1,7 +1,7 @@
 -- The entry under a slot, and the table with another value there.
-use Rattle.std.proofs.{Common.{◌≡◌, ℕ, ◌==◌, Bool, true, false, List, [], ◌∷◌, map, Option, Some, None, is_some, refl, sym, ap, ◌∙◌, arith}, lemmas.Bool.Decides.nat_tests}
-use Rattle.std.specs.{Option.option_map, List.slice_get}
-use Rattle.vs_flow.{specs.Table.{Table, IsTable, entry_under, value_under, with_value, revalued, emptied}, proofs.{Entries.{found_at, found_passes}, Tables.revalued-slot}}
+use Rattle.std.proofs.{Common.{◌≡◌, ℕ, ◌==◌, Bool, true, false, cond, List, [], ◌∷◌, map, Option, Some, None, is_some, refl, sym, ap, ◌∙◌, arith}, lemmas.{Bool.Decides.nat_tests, List.Folds.map_fixed}}
+use Rattle.std.specs.{Option.option_map, List.{find, slice_get}}
+use Rattle.vs_flow.{specs.Table.{Table, IsRising, IsTable, entry_under, value_under, with_value, revalued, emptied}, proofs.{Entries.{above_head, found_at, found_passes, rising_tail}, Tables.revalued-slot}}
 use Rattle.vs_flow.proofs.Lookups.{entry_under-with_value}
 use Rattle.vs_device_parts.specs.State.{DeviceConnection, DeviceEntry}
 
@@ -72,6 +72,27 @@ map_twice slot a b (e ∷ es) =
 -- the last value written stands
 pub with_value_twice : (t : Table DeviceConnection) (slot : ℕ) (a b : DeviceConnection) → with_value (with_value t slot a) slot b ≡ with_value t slot b
 with_value_twice t slot a b = ap (λ (es : List DeviceEntry). let u : Table DeviceConnection = record t { entries = es } in u) (map_twice slot a b t.entries)
+
+-- the value that stands under a slot is written again
+written_again : (slot : ℕ) (e : DeviceEntry) (es : List DeviceEntry) → IsRising es → find (λ d. d.slot == slot) es ≡ Some e → map (revalued slot e.value) es ≡ es
+written_again slot e [] rising found = refl
+written_again slot e (d ∷ es) rising found = by (d.slot == slot) refl found (written_again slot e es (rising_tail d es rising))
+  where
+    by : (b : Bool) → (d.slot == slot) ≡ b → cond b (Some d) (find (λ x. x.slot == slot) es) ≡ Some e
+        → (find (λ x. x.slot == slot) es ≡ Some e → map (revalued slot e.value) es ≡ es) → map (revalued slot e.value) (d ∷ es) ≡ d ∷ es
+    by true is found rest =
+        let here : d.slot ≡ slot = grind (arith, nat_tests, is) in
+        let same : e ≡ d = let both : Some d ≡ Some e = found in cc in
+        let above = above_head d es rising in
+        let others : map (revalued slot e.value) es ≡ es =
+        map_fixed (revalued slot e.value) es (λ i x lt. let far = above i x lt in grind (arith, nat_tests, far, here)) in
+        rw (is, others) (ap (λ (x : DeviceEntry). with_its d x.value ∷ es) same)
+    by false is found rest = rw is (ap (λ (xs : List DeviceEntry). d ∷ xs) (rest found))
+
+pub with_value_again : (t : Table DeviceConnection) (slot : ℕ) (e : DeviceEntry) → IsTable t → entry_under t slot ≡ Some e → with_value t e.slot e.value ≡ t
+with_value_again t slot e sound found =
+    ap (λ (n : ℕ). with_value t n e.value) (has_slot t slot e found)
+    ∙ ap (λ (es : List DeviceEntry). let u : Table DeviceConnection = record t { entries = es } in u) (written_again slot e t.entries sound.rising found)
 
 -- what a look-up by another key found
 pub record IsMapped {X : Type 0} (f : X → ℕ) (o : Option X) (n : ℕ) : Type 0 where

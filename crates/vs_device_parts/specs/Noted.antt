@@ -11,7 +11,7 @@ abbrev pub service_of : DeviceConnection → Service
 service_of c =
     if is_some (owes_of c.end) then service.Owed
     else if not (may_read c.end c.end.state) then service.Nothing
-    else if free_of c.end.credit == 0 then service.Owed
+    else if free_of c.end.credit == 0 then (if c.end.credit_asked then service.Nothing else service.Owed)
     else service.Read c.stream (free_of c.end.credit)
 
 abbrev pub note_of : ℕ → DeviceConnection → Note

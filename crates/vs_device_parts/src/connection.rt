@@ -11,6 +11,7 @@ ghost use Rattle.vs_uds.specs.OkLine.{ok_text};
 ghost use Rattle.vs_device_parts.specs.{Connections.{after_shut, after_written, cut_off, is_late, is_timed_out, new_connection, stream_closed}, Paid.paid_connection};
 ghost use Rattle.vs_device_parts.specs.{Receiving.may_read, Room.IsSpare, Streams.{to_write, is_written_out}, Transmitting.{heard, without_payload}, Watched.has_to_write};
 ghost use Rattle.vs_device_parts.specs.{Growing.grow_answer, Noted.service_of, declared.answers.Grown.TheVariants.Done};
+ghost use Rattle.vs_device_parts.specs.declared.service.Service.TheVariants as service;
 
 use crate::answers::Grown;
 use crate::service::Service;
@@ -370,11 +371,22 @@ impl Connection {
         }
         let credit = self.free();
         if credit == 0 {
-            return Service::Owed;
+            return self.without_credit();
         }
         Service::Read {
             stream: self.stream,
             credit,
+        }
+    }
+
+    // What the round does on it where it has no credit, and owes nothing: it asks for some, once.
+    fn without_credit(&self) -> Service
+        ensures { result ≡ if self.now.end.credit_asked then service.Nothing else service.Owed }
+    {
+        if self.end.has_asked_for_credit() {
+            Service::Nothing
+        } else {
+            Service::Owed
         }
     }
 

@@ -183,7 +183,8 @@ impl Slots {
     /// What the round over all connections does on the one in a slot, as far as one look tells at the place where it stands if none went before.
     #[inline(always)]
     pub fn service(&self, slot: Slot, place: usize) -> Service
-        ensures { IsServedSo (value_under self.now slot) result }
+        ensures served { IsServedSo (value_under self.now slot) result }
+        ensures sound { IsTable self.now }
     {
         match self.notes.at(place) {
             Some(note) if note.slot == slot => note.service,
