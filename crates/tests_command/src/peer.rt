@@ -4,7 +4,7 @@ use crate::client::client;
 use std::alloc::{AllocError, AllocGlobal, Global};
 use std::sync::Wait;
 use std::test::Fail;
-use vs_outside::{FreeGate, MemSink, MemSource, PeerHost, PreparedStream};
+use vs_outside::{FreeGate, MemSink, MemSource, MemStream, PeerHost, PreparedStream};
 use vs_peer::{BAD_SOURCE, DONE, REFUSED, SOURCE_MAX, WAITED};
 
 const IDLE: u32 = 3;
@@ -31,6 +31,12 @@ fn run<R: AllocGlobal + Wait>(
     Ok((status, sink, gate.pauses()))
 }
 
+/// Whether the stream was given just these bytes, of which there are 64 at most.
+fn is_given(stream: &MemStream, bytes: &[u8]) -> bool {
+    let read = stream.read_after_ok();
+    read.count == bytes.len() as u64 && &read.front[..bytes.len()] == bytes
+}
+
 /// Whether the client ends with that status, writes that text, and gives these bytes to its stream; where it waited, with a pause a step.
 fn ends<R: AllocGlobal + Wait>(
     rt: &R,
@@ -44,7 +50,7 @@ fn ends<R: AllocGlobal + Wait>(
     let mut right = ended == status && sink.bytes() == written;
     right = right && (status != WAITED || pauses == u64::from(IDLE));
     for stream in host.host().streams() {
-        right = right && stream.given() == given;
+        right = right && is_given(stream, given);
     }
     Ok(right)
 }

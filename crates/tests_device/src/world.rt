@@ -58,7 +58,10 @@ fn answer(alloc: Global, world: &mut World) -> Result<(), AllocError>
 // Whether the program read the two bytes.
 fn is_read(world: &World) -> bool {
     match world.streams() {
-        [stream] => stream.read_after_ok() == [1, 2].as_slice(),
+        [stream] => {
+            let read = stream.read_after_ok();
+            read.count == 2 && read.front[..2] == [1, 2]
+        }
         _ => false,
     }
 }

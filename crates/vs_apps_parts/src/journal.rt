@@ -9,7 +9,6 @@ ghost use Rattle.vs_apps_parts.specs.{Journals.{called_noted, calls_of, made_of,
 ghost use Rattle.vs_apps_parts.specs.{Sums.{is_receive, kept_of, no_journal}, declared.progress.TheConstants.SLICE};
 ghost use Rattle.vs_apps_parts.specs.declared.journal.Called.TheVariants.{Recv};
 
-use crate::bytes_given::{BytesGiven, Piece};
 use crate::progress::SLICE;
 use crate::told::Told;
 use indexmap::IndexMap;
@@ -20,6 +19,7 @@ use vs_driver_parts::answers::{
     Shut,
 };
 use vs_excerpt::Excerpt;
+use vs_excerpt::bytes_given::{BytesGiven, Piece};
 use vs_flow::Flow;
 
 /// Why an app waits.

@@ -4,6 +4,8 @@
 ghost use Rattle.std.specs.Prelude.{◌≡◌, ◌≤◌, ◌<◌, ◌+◌, ◌-◌, ◌++◌, ◌^◌, [], List, ℕ, drop, length, min, take};
 ghost use Rattle.vs_excerpt.specs.Excerpt.{excerpt_of, front_of};
 
+pub mod bytes_given;
+
 /// The most bytes that are printed in full.
 pub const MAX_IN_FULL: usize = 64;
 

@@ -1,4 +1,5 @@
 pub mod Bytes
+pub mod Lines
 pub mod Streams
 pub mod Frames
 pub mod Connections

@@ -39,7 +39,7 @@ impl ListenedPath {
 }
 
 /// A host in memory. Its streams have the ids 1, 2, 3 and so on, in the order in which clients and dials make them. It fails
-/// where it is to fail, and where a dial or a write finds no memory.
+/// where it is to fail, and where a dial or a write found no memory, or can count no more.
 #[derive(Drop)]
 pub struct MemHost {
     base: String,
@@ -130,7 +130,7 @@ impl MemHost {
         }
     }
 
-    /// Whether a dial or a write found no memory, and failed.
+    /// Whether a dial or a write found no memory, or can count no more, and failed.
     pub fn starved(&self) -> bool
         ensures { result ≡ self.now.contents.starved }
     {
@@ -266,7 +266,7 @@ impl MemHost {
         fails
     }
 
-    /// Counts a call that failed for want of memory.
+    /// Counts a call that found no memory, or can count no more.
     fn starve(&mut self)
         ensures { self.new ≡ starves self.old }
     {

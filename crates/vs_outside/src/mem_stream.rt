@@ -1,11 +1,14 @@
 //! A stream of a host in memory.
-ghost use Rattle.std.specs.{Prelude.{◌≡◌, ◌≤◌, ◌<◌, ◌-◌, ◌==◌, true, length, min, take, position, IfSome, IfOk, OnOk, OnErr, is_none}, Option.option_map};
+ghost use Rattle.std.specs.{Prelude.{◌≡◌, ◌≤◌, ◌<◌, ◌-◌, ◌==◌, ◌++◌, ◌||◌, true, if◌then◌else◌, length, min, take, position, IfSome, IfOk, OnOk, OnErr, is_none}, Option.option_map};
 ghost use Rattle.vs_outside.specs.{Host.{dialed_stream, is_waiting, read_of, taken_of, write_of}, HostProgram.{plain, client_stream, ReadsStream, stream_after_write, is_over}};
-ghost use Rattle.vs_outside.specs.{HostProgram.{with_bytes, changed}, HostBytes.{after_line, wrote_after_connect, read_after_ok}};
+ghost use Rattle.vs_outside.specs.{HostProgram.{with_bytes, changed}, HostBytes.{after_line, wrote_after_connect, read_after_ok}, KeptBytes.has_line};
+ghost use Rattle.vs_excerpt.specs.Excerpt.{excerpt_of};
 
 use crate::host_net::{StreamRead, StreamState, StreamWrite};
 use std::alloc::{AllocError, Global};
 use std::marker::Model;
+use vs_excerpt::Excerpt;
+use vs_excerpt::bytes_given::{BytesGiven, Piece};
 use vs_flow::Flow;
 
 /// The byte that ends a line, LF.
@@ -75,7 +78,7 @@ impl PreparedStream {
     }
 }
 
-/// A stream of a host in memory.
+/// A stream of a host in memory. Of the bytes that the proxy gave it it keeps an excerpt, and no more.
 #[derive(Drop)]
 pub struct MemStream {
     label: Option<Flow>,
@@ -85,7 +88,11 @@ pub struct MemStream {
     written: Vec<u8>,
     at: usize,
     ended: bool,
-    given: Vec<u8>,
+    given: BytesGiven,
+    /// What is kept of the bytes that the host's program was given to read, without the OK line that a client gets.
+    read: Excerpt,
+    /// Whether no byte of an OK line is to come: the line is whole, or the proxy dialled the stream.
+    line_over: bool,
     room: Option<usize>,
     host_closed: bool,
     write_shut: bool,
@@ -93,7 +100,7 @@ pub struct MemStream {
 
 impl Model for MemStream {
     ghost use Rattle.std.specs.Prelude.{◌≤◌, false, take, drop, vec_len};
-    ghost use Rattle.vs_outside.specs.Host.{Stream};
+    ghost use Rattle.vs_outside.specs.{Host.Stream, KeptBytes.IsKept};
 
     ghost Value = { Stream };
 
@@ -111,7 +118,7 @@ impl Model for MemStream {
       write_shut = s.write_shut;
     } };
 
-    ghost invariant = { λ s. s.at ≤ vec_len s.written };
+    ghost invariant = { λ s. (s.at ≤ vec_len s.written) × IsKept s.by_client s.given.items s.read s.line_over };
 }
 
 impl MemStream {
@@ -126,7 +133,9 @@ impl MemStream {
             written: Vec::new(alloc),
             at: 0,
             ended: false,
-            given: Vec::new(alloc),
+            given: BytesGiven::new(),
+            read: Excerpt::none(),
+            line_over: false,
             room: None,
             host_closed: false,
             write_shut: false,
@@ -148,7 +157,9 @@ impl MemStream {
             written: Vec::from_slice(alloc, &prepared.bytes)?,
             at: 0,
             ended: prepared.ended,
-            given: Vec::new(alloc),
+            given: BytesGiven::new(),
+            read: Excerpt::none(),
+            line_over: true,
             room: prepared.room,
             host_closed: prepared.closed,
             write_shut: false,
@@ -190,13 +201,6 @@ impl MemStream {
         self.written.split_at(self.at).1
     }
 
-    /// The bytes that the proxy gave the stream.
-    pub fn given(&self) -> &[u8]
-        ensures { result.now ≡ self.now.given }
-    {
-        &self.given
-    }
-
     /// Whether the proxy shut the side that it writes to.
     pub fn is_write_shut(&self) -> bool
         ensures { result ≡ self.now.write_shut }
@@ -215,15 +219,11 @@ impl MemStream {
         }
     }
 
-    /// What the host's program was given to read, without the OK line that a client gets.
-    pub fn read_after_ok(&self) -> &[u8]
-        ensures { result.now ≡ read_after_ok self.now }
+    /// What is kept of what the host's program was given to read, without the OK line that a client gets.
+    pub fn read_after_ok(&self) -> &Excerpt
+        ensures { result.now ≡ excerpt_of (read_after_ok self.now) }
     {
-        if self.by_client {
-            after_line(self.given())
-        } else {
-            self.given()
-        }
+        &self.read
     }
 
     /// Whether a client made the stream and it isn't accepted yet.
@@ -289,7 +289,8 @@ impl MemStream {
         }
     }
 
-    /// The proxy writes the first ones of these bytes. Where there is no memory for them, all is as before.
+    /// The proxy writes the first ones of these bytes. The only error is that the bytes of the stream can't be counted in 64 bits; then
+    /// all is as before.
     pub(crate) fn write(&mut self, bytes: &[u8]) -> Result<StreamWrite, AllocError>
         ensures answer { IfOk result (λ answer. answer ≡ write_of (length bytes.now) self.old) }
         ensures ok { IfOk result (λ answer. self.new ≡ stream_after_write bytes.now answer self.old) }
@@ -302,9 +303,24 @@ impl MemStream {
         if n == 0 {
             return Ok(StreamWrite::Again);
         }
-        self.given.extend_from_slice(&bytes[..n])?;
+        self.give(&bytes[..n])?;
         self.room = room_left(self.room, n);
         Ok(StreamWrite::Took(n))
+    }
+
+    /// The stream is given these bytes. The only error is that its bytes can't be counted in 64 bits; then all is as before.
+    fn give(&mut self, bytes: &[u8]) -> Result<(), AllocError>
+        ensures ok { OnOk result (self.new ≡ record self.old { given = self.old.given ++ bytes.now }) }
+        ensures err { OnErr result (self.new ≡ self.old) }
+    {
+        let read = behind_ok(self.line_over, bytes);
+        if self.read.count > u64::MAX - read.len() as u64 {
+            return Err(AllocError);
+        }
+        self.read = self.read.then(read);
+        self.line_over = is_line_over(self.line_over, bytes);
+        self.given = self.given.then(&Piece { bytes });
+        Ok(())
     }
 
     /// Whether the host's program can write no more: it ended the stream, or the proxy closed it.
@@ -331,6 +347,27 @@ fn room_left(room: Option<usize>, n: usize) -> Option<usize>
         Some(room) => Some(room.saturating_sub(n)),
         None => None,
     }
+}
+
+/// What the host's program reads of bytes that come next: all of them once the OK line is over.
+fn behind_ok(line_over: bool, bytes: &[u8]) -> &[u8]
+    ensures { result.now ≡ (if line_over then bytes.now else after_line bytes.now) }
+{
+    if line_over { bytes } else { after_line(bytes) }
+}
+
+/// Whether the OK line is over once these bytes came.
+fn is_line_over(line_over: bool, bytes: &[u8]) -> bool
+    ensures { result ≡ (line_over || has_line bytes.now) }
+{
+    line_over || has_line(bytes)
+}
+
+/// Whether a line ends in the bytes.
+fn has_line(bytes: &[u8]) -> bool
+    ensures { result ≡ has_line bytes.now }
+{
+    bytes.iter().any(|b| *b == LINE_END)
 }
 
 /// The bytes after the first line; none while the line isn't whole.

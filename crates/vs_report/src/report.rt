@@ -1,12 +1,14 @@
 //! The report behind the last line of a play.
 
-ghost use Rattle.std.specs.Prelude.{◌≡◌, ◌++◌, OnOk, string_bytes, codes};
+ghost use Rattle.std.specs.Prelude.{◌≡◌, ◌++◌, List, ℕ, OnOk, string_bytes, codes};
+ghost use Rattle.vs_excerpt.specs.Excerpt.{excerpt_of};
 ghost use Rattle.vs_report.specs.{Bytes.counted_text, Report.{guest_open_text, device_open_text, stream_text, flow_bytes_text, labelled_text, broken_text, counts_text}};
 
-use crate::bytes::push_counted;
+use crate::bytes::{push_counted, push_excerpt};
 use crate::number::{push_last, push_number};
 use std::alloc::AllocError;
 use vs_device_parts::answers::Counters;
+use vs_excerpt::Excerpt;
 use vs_flow::Flow;
 use vs_outside::MemStream;
 
@@ -44,9 +46,10 @@ fn push_labelled(
     out: &mut String,
     label: Option<Flow>,
     wrote: &[u8],
-    read: &[u8],
+    read: &Excerpt,
 ) -> Result<(), AllocError>
-    ensures { OnOk result (string_bytes out.new ≡ string_bytes out.old ++ labelled_text label wrote.now read.now) }
+    ensures { (bytes : List ℕ) → read.now ≡ excerpt_of bytes
+        → OnOk result (string_bytes out.new ≡ string_bytes out.old ++ labelled_text label wrote.now bytes) }
 {
     match label {
         Some(flow) => push_flow_bytes(out, flow, wrote, read),
@@ -59,9 +62,10 @@ fn push_flow_bytes(
     out: &mut String,
     flow: Flow,
     wrote: &[u8],
-    read: &[u8],
+    read: &Excerpt,
 ) -> Result<(), AllocError>
-    ensures { OnOk result (string_bytes out.new ≡ string_bytes out.old ++ flow_bytes_text flow wrote.now read.now) }
+    ensures { (bytes : List ℕ) → read.now ≡ excerpt_of bytes
+        → OnOk result (string_bytes out.new ≡ string_bytes out.old ++ flow_bytes_text flow wrote.now bytes) }
 {
     push_number(out, "", flow.guest as u64)?;
     push_number(out, " ", flow.host as u64)?;
@@ -70,12 +74,13 @@ fn push_flow_bytes(
     push_read(out, read)
 }
 
-// What a stream's program read.
-fn push_read(out: &mut String, read: &[u8]) -> Result<(), AllocError>
-    ensures { OnOk result (string_bytes out.new ≡ string_bytes out.old ++ (codes " read " ++ counted_text read.now ++ codes "\n")) }
+// What a stream's program read, by an excerpt.
+fn push_read(out: &mut String, read: &Excerpt) -> Result<(), AllocError>
+    ensures { (bytes : List ℕ) → read.now ≡ excerpt_of bytes
+        → OnOk result (string_bytes out.new ≡ string_bytes out.old ++ (codes " read " ++ counted_text bytes ++ codes "\n")) }
 {
     out.push_str(" read ")?;
-    push_counted(out, read)?;
+    push_excerpt(out, read)?;
     out.push_str("\n")
 }
 

@@ -10,12 +10,12 @@ use types.{Logic.Logic, Kit.{‵, raw, ◌⊛◌, ◌$◌, ◌∵◌, !, qed, mo
 use types.ByLocal.{free_all, look_at, sets}
 use denote.{RattleType.owns, Signature.types_at, Steps.nothing, Triple.{Clauses.{Clauses, Ended, closing}, Entry.alive, Spec.{Meets, triple_of}, Table.entered, Walked.says}}
 use denote.Triple.Walked.{Stays, walk_of, ends_at, walk_Meets}
-use Rattle.laws_ring_journal.proofs.Walks.{none, none_made}
-use Rattle.vs_apps_parts.specs.contracts.bytes_given.BytesGiven.new.Key.{name as #self}
-use Rattle.vs_apps_parts.specs.contracts.bytes_given.BytesGiven as BytesGiven
-use Rattle.vs_apps_parts.specs.contracts.bytes_given.BytesGiven.new as F
-use Rattle.vs_apps_parts.proofs.bytes_given.BytesGiven.new.Statement as stated
-use Rattle.vs_apps_parts.proofs.bytes_given.BytesGiven.new.Code as code
+use Rattle.vs_excerpt.proofs.Walks.{none, none_made}
+use Rattle.vs_excerpt.specs.contracts.bytes_given.BytesGiven.new.Key.{name as #self}
+use Rattle.vs_excerpt.specs.contracts.bytes_given.BytesGiven as BytesGiven
+use Rattle.vs_excerpt.specs.contracts.bytes_given.BytesGiven.new as F
+use Rattle.vs_excerpt.proofs.bytes_given.BytesGiven.new.Statement as stated
+use Rattle.vs_excerpt.proofs.bytes_given.BytesGiven.new.Code as code
 
 abbrev function : Fn
 function = code.function

@@ -10,13 +10,13 @@ use types.{Logic.Logic, Kit.{‵, raw, ◌⊛◌, prop, ◌$◌, ◌∵◌, !, q
 use types.ByLocal.{alloc_all, pass_all, free_all, look_at, sets}
 use denote.{Exit.yes, RattleType.owns, Builtin.RefOf, Signature.{plain, types_at, named_lft}, Steps.nothing, Triple.{Clauses.{Clauses, Ended, closing}, Entry.alive, Spec.Meets}}
 use denote.Triple.{Spec.triple_of, Table.entered, Walked.{says, Stays, stay_dropped, walk_of, ends_at, walk_Meets, Goes-dropped}}
-use Rattle.laws_ring_journal.proofs.Walks.{none, none_made}
-use Rattle.vs_apps_parts.specs.contracts.bytes_given.BytesGiven.then.Key.{name as #self}
-use Rattle.vs_apps_parts.specs.contracts.bytes_given.BytesGiven as BytesGiven
-use Rattle.vs_apps_parts.specs.contracts.bytes_given.Piece as Piece
-use Rattle.vs_apps_parts.specs.contracts.bytes_given.BytesGiven.then as F
-use Rattle.vs_apps_parts.proofs.bytes_given.BytesGiven.then.Statement as stated
-use Rattle.vs_apps_parts.proofs.bytes_given.BytesGiven.then.Code as code
+use Rattle.vs_excerpt.proofs.Walks.{none, none_made}
+use Rattle.vs_excerpt.specs.contracts.bytes_given.BytesGiven.then.Key.{name as #self}
+use Rattle.vs_excerpt.specs.contracts.bytes_given.BytesGiven as BytesGiven
+use Rattle.vs_excerpt.specs.contracts.bytes_given.Piece as Piece
+use Rattle.vs_excerpt.specs.contracts.bytes_given.BytesGiven.then as F
+use Rattle.vs_excerpt.proofs.bytes_given.BytesGiven.then.Statement as stated
+use Rattle.vs_excerpt.proofs.bytes_given.BytesGiven.then.Code as code
 
 abbrev function : Fn
 function = code.function

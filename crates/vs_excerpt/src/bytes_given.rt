@@ -1,11 +1,11 @@
-//! The bytes that all receives of a run gave, which stand in proofs alone.
+//! Bytes that came one after another, which stand in proofs alone.
 
 ghost use Rattle.std.specs.Prelude.{◌≡◌, ◌++◌, [], List, ℕ};
 ghost use base.Fml.{ftrue};
 
 use std::marker::Model;
 
-/// All bytes that receives gave, one after another. Only contracts see them, and they take no memory.
+/// All bytes that were given so far, one after another. Only contracts see them, and they take no memory.
 #[derive(Drop)]
 pub struct BytesGiven {
     pub ghost items: { List ℕ },
@@ -18,7 +18,7 @@ impl Model for BytesGiven {
 // It owns nothing.
 unsafe impl Send for BytesGiven {}
 
-/// Bytes that one receive gave.
+/// Bytes that were given at once.
 #[derive(Clone, Copy, Drop)]
 pub struct Piece<'a> {
     pub bytes: &'a [u8],
