@@ -1,9 +1,9 @@
 -- The line that a load prints, by the journal of its run.
-use Rattle.std.specs.{Prelude.{ℕ, ◌+◌, List, [], if◌then◌else◌, length, nat_lt}, List.fold}
+use Rattle.std.specs.{Prelude.{ℕ, ◌+◌, List, [], if◌then◌else◌, length, nat_lt, Option}, List.fold}
 use Rattle.vs_page.specs.Fair.{IsPrefixOf}
 use Rattle.laws_driver.specs.Carried.Calls.{Journal, received_by}
 use Rattle.vs_apps_parts.specs.{Journals.{calls_of, sent_as}, Scripts.RunScript, declared.journal.Entry.Entry}
-use Rattle.vs_run_report.specs.{Connections.{capped, listed, opened_all, opened_by}, Load.{load_text, matches}, declared.connection.Opened.Opened}
+use Rattle.vs_run_report.specs.{Connections.{capped, listed, opened_all, opened_by}, Load.{load_text, matches}, Sums.count_of, declared.connection.Opened.Opened}
 use Rattle.vs_load_parts.specs.declared.tally.Tally.{Tally}
 
 -- Nothing is counted yet; and what one connection adds: the bytes that were sent on it, and the places where the byte that came back is the one
@@ -32,9 +32,10 @@ load_line conns script entries bytes = tally_text conns (tally_of script entries
 abbrev pub CameBack : Journal → Opened → Type 0
 CameBack journal o = IsPrefixOf (received_by o.id journal) (sent_as o.id journal)
 
-abbrev pub counts : Journal → Tally → Opened → Tally
-counts journal t o = record {
-  sent = capped (t.sent + length (sent_as o.id journal));
+-- The same by the counts that are kept of what was sent on each connection.
+abbrev pub counts : (ℕ → Option ℕ) → Journal → Tally → Opened → Tally
+counts sent journal t o = record {
+  sent = capped (t.sent + count_of (sent o.id));
   matched = capped (t.matched + length (received_by o.id journal));
 }
 

@@ -6,7 +6,7 @@ use Rattle.laws_driver.specs.Carried.{Calls.{Journal, bytes_sent, names}, Sent.t
 use Rattle.vs_apps_parts.specs.{Journals.{calls_of, data_at, gathered, made_by, made_of, sent_as}, Scripts.{RunScript, acts_of, slice_of}, declared.journal.Called.Called}
 use Rattle.vs_apps_parts.specs.declared.journal.{Deed.Deed, Entry.Entry}
 use Rattle.vs_driver_parts.specs.declared.answers.Sent.{Sent}
-use Rattle.vs_run_report.specs.{Connections.capped, Sums.{sent_by, sent_number, took_number}}
+use Rattle.vs_run_report.specs.{Connections.capped, Sums.{amount_on, sent_by, sent_in, took_number}}
 use Rattle.vs_apps_parts.specs.declared.journal.Called.TheVariants as called
 use Rattle.vs_apps_parts.specs.declared.journal.Deed.TheVariants as deed
 use Rattle.vs_driver_parts.specs.declared.answers.Sent.TheVariants as sent
@@ -39,7 +39,7 @@ module _ (id : ℕ) (script : RunScript) (bytes : List ℕ) (app : ℕ) where
   if_sent false from len whole answer = refl
 
   sent_called : (c : Called) → length (let m = made_of script bytes app c in if names id m.id then bytes_sent m.call m.reply else [])
-      ≡ sent_number id script app c
+      ≡ amount_on id (sent_in script app c)
   sent_called (called.Connect port answer flow) = refl
   sent_called (called.Listen port answer) = refl
   sent_called (called.Accept port answer flow) = refl
@@ -52,7 +52,7 @@ module _ (id : ℕ) (script : RunScript) (bytes : List ℕ) (app : ℕ) where
 
   sent_with : (older : Journal) (d : Deed)
       → length (sent_as id (made_by script bytes (record { app = app; deed = d }) ++ older))
-      ≡ length (sent_as id older) + sent_by id script (record { app = app; deed = d })
+      ≡ length (sent_as id older) + amount_on id (sent_by script (record { app = app; deed = d }))
   sent_with older (deed.Called c) =
       length-append (sent_as id older) (let m = made_of script bytes app c in if names id m.id then bytes_sent m.call m.reply else [])
       ∙ ap (λ (n : ℕ). length (sent_as id older) + n) (sent_called c)
@@ -72,10 +72,20 @@ capped_more : (n m : ℕ) → min (min n (2 ^ 64 - 1) + m) (2 ^ 64 - 1) ≡ min 
 capped_more n m = omega arith
 
 module _ (id : ℕ) (script : RunScript) (bytes : List ℕ) (es : List Entry) (i : ℕ) (e : Entry) (at : take (i + 1) es ≡ take i es ++ e ∷ []) where
-  pub sent_next : (n m sum : ℕ) → n ≡ capped (length (sent_as id (calls_of script bytes (take i es)))) → m ≡ sent_by id script e
+  length_next : length (sent_as id (calls_of script bytes (take i es))) + amount_on id (sent_by script e)
+      ≡ length (sent_as id (calls_of script bytes (take (i + 1) es)))
+  length_next =
+      sym (ap (λ (j : Journal). length (sent_as id j)) (calls_next script bytes es i e at)
+      ∙ sent_with id script bytes e.app (calls_of script bytes (take i es)) e.deed)
+
+  pub sent_next : (n m sum : ℕ) → n ≡ capped (length (sent_as id (calls_of script bytes (take i es)))) → m ≡ amount_on id (sent_by script e)
       → sum ≡ min (n + m) (2 ^ 64 - 1) → sum ≡ capped (length (sent_as id (calls_of script bytes (take (i + 1) es))))
   sent_next n m sum before more is =
       let older = calls_of script bytes (take i es) in
       is ∙ ap (λ (k : ℕ). min (k + m) (2 ^ 64 - 1)) before ∙ ap (λ (k : ℕ). min (capped (length (sent_as id older)) + k) (2 ^ 64 - 1)) more
-      ∙ capped_more (length (sent_as id older)) (sent_by id script e)
-      ∙ ap capped (sym (ap (λ (j : Journal). length (sent_as id j)) (calls_next script bytes es i e at) ∙ sent_with id script bytes e.app older e.deed))
+      ∙ capped_more (length (sent_as id older)) (amount_on id (sent_by script e)) ∙ ap capped length_next
+
+  pub each_next : (old new : ℕ) → old ≡ capped (length (sent_as id (calls_of script bytes (take i es))))
+      → ((n : ℕ) → old ≡ capped n → new ≡ capped (n + amount_on id (sent_by script e)))
+      → new ≡ capped (length (sent_as id (calls_of script bytes (take (i + 1) es))))
+  each_next old new before adds = adds (length (sent_as id (calls_of script bytes (take i es)))) before ∙ ap capped length_next

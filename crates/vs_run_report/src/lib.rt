@@ -10,4 +10,5 @@ pub mod giving;
 pub mod laws;
 pub mod load;
 pub mod report;
+pub mod sent;
 pub mod sums;

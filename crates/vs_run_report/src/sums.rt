@@ -3,11 +3,18 @@
 ghost use Rattle.std.specs.Prelude.{◌≡◌, List, ℕ, length};
 ghost use Rattle.vs_script.specs.App.{instruction_view};
 ghost use Rattle.vs_apps_parts.specs.{Journals.{calls_of, data_at, data_in, sent_as}, Scripts.{acts_of, script_of}};
-ghost use Rattle.vs_run_report.specs.{Connections.capped, Sums.{sent_by, sent_number, took_number}};
+ghost use Rattle.vs_run_report.specs.{Connections.capped, Sums.{amount_on, sent_by, sent_in, took_number}};
 
 use vs_apps_parts::journal::{Called, Deed, Entry};
 use vs_driver_parts::answers::{ConnId, Sent};
 use vs_script::{App, Instruction};
+
+/// Bytes that an entry tells were sent on a connection.
+#[derive(Clone, Copy)]
+pub struct Portion {
+    pub id: ConnId,
+    pub count: usize,
+}
 
 /// How many bytes were sent on a connection. The count stands still at the last number of 64 bits.
 pub fn sent_on(id: ConnId, script: &[App], entries: &[Entry]) -> u64
@@ -15,43 +22,50 @@ pub fn sent_on(id: ConnId, script: &[App], entries: &[Entry]) -> u64
 {
     let mut sent = 0u64;
     for entry in entries {
-        sent = sent.saturating_add(sent_by(id, script, *entry) as u64);
+        sent = sent.saturating_add(amount_on(id, sent_by(script, *entry)) as u64);
     }
     sent
 }
 
-// How many bytes an entry tells that a send took.
-fn sent_by(id: ConnId, script: &[App], entry: Entry) -> usize
-    ensures { result ≡ sent_by id (script_of script.now) entry }
+// How many of these bytes were sent on a connection.
+fn amount_on(id: ConnId, portion: Option<Portion>) -> usize
+    ensures { result ≡ amount_on id portion }
 {
-    match entry.deed {
-        Deed::Called(called) => sent_number(id, script, entry.app, called),
-        Deed::Waited { times: _, why: _ } => 0,
+    match portion {
+        Some(portion) => { if id == portion.id { portion.count } else { 0 } }
+        None => 0,
     }
 }
 
-// How many bytes a call took.
-fn sent_number(id: ConnId, script: &[App], app: usize, called: Called) -> usize
-    ensures { result ≡ sent_number id (script_of script.now) app called }
+/// On which connection an entry tells of a send, and how many bytes that took.
+pub fn sent_by(script: &[App], entry: Entry) -> Option<Portion>
+    ensures { result ≡ sent_by (script_of script.now) entry }
+{
+    match entry.deed {
+        Deed::Called(called) => sent_in(script, entry.app, called),
+        Deed::Waited { times: _, why: _ } => None,
+    }
+}
+
+// On which connection a call sent, and how many bytes.
+fn sent_in(script: &[App], app: usize, called: Called) -> Option<Portion>
+    ensures { result ≡ sent_in (script_of script.now) app called }
 {
     match called {
         Called::Send {
-            id: other,
+            id,
             at,
             from,
             len,
             answer,
         } => {
-            if id == other {
-                took_number(
-                    len.min(data_len(script, app, at).saturating_sub(from)),
-                    answer,
-                )
-            } else {
-                0
-            }
+            let count = took_number(
+                len.min(data_len(script, app, at).saturating_sub(from)),
+                answer,
+            );
+            Some(Portion { id, count })
         }
-        _ => 0,
+        _ => None,
     }
 }
 
