@@ -1,9 +1,10 @@
 -- The report behind the last line of a play, each line with its LF.
 use Rattle.std.specs.Prelude.{ℕ, ◌+◌, List, [], ◌∷◌, ◌++◌, codes, decimal, Option, Some, None}
 use Rattle.vs_device_parts.specs.declared.answers.Counters.{Counters}
+use Rattle.vs_excerpt.specs.declared.Excerpt.{Excerpt}
 use Rattle.vs_flow.specs.declared.flow.Flow.{Flow}
 use Rattle.vs_outside.specs.{Host.Stream, HostBytes.wrote_after_connect, HostBytes.read_after_ok}
-use Rattle.vs_report.specs.{Bytes.counted_text, declared.giving.Totals.Totals}
+use Rattle.vs_report.specs.{Bytes.{counted_text, excerpt_text}, declared.giving.Totals.Totals}
 
 -- How many entries each table has.
 abbrev pub guest_open_text : ℕ → List ℕ
@@ -21,6 +22,15 @@ flow_bytes_text f wrote read =
 abbrev pub labelled_text : Option Flow → List ℕ → List ℕ → List ℕ
 labelled_text (Some f) wrote read = flow_bytes_text f wrote read
 labelled_text None wrote read = codes "- - wrote 0 - read 0 -\n"
+
+-- The same by an excerpt of what was read.
+abbrev pub flow_shown_text : Flow → List ℕ → Excerpt → List ℕ
+flow_shown_text f wrote read =
+    decimal f.guest ++ codes " " ++ decimal f.host ++ codes " wrote " ++ counted_text wrote ++ codes " read " ++ excerpt_text read ++ codes "\n"
+
+abbrev pub labelled_shown_text : Option Flow → List ℕ → Excerpt → List ℕ
+labelled_shown_text (Some f) wrote read = flow_shown_text f wrote read
+labelled_shown_text None wrote read = codes "- - wrote 0 - read 0 -\n"
 
 abbrev pub stream_text : ℕ → Stream → List ℕ
 stream_text number s =

@@ -1,8 +1,7 @@
 //! The report behind the last line of a play.
 
-ghost use Rattle.std.specs.Prelude.{◌≡◌, ◌++◌, List, ℕ, OnOk, string_bytes, codes};
-ghost use Rattle.vs_excerpt.specs.Excerpt.{excerpt_of};
-ghost use Rattle.vs_report.specs.{Bytes.counted_text, Report.{guest_open_text, device_open_text, stream_text, flow_bytes_text, labelled_text, broken_text, counts_text}};
+ghost use Rattle.std.specs.Prelude.{◌≡◌, ◌++◌, OnOk, string_bytes, codes};
+ghost use Rattle.vs_report.specs.{Bytes.excerpt_text, Report.{guest_open_text, device_open_text, stream_text, flow_shown_text, labelled_shown_text, broken_text, counts_text}};
 
 use crate::bytes::{push_counted, push_excerpt};
 use crate::number::{push_last, push_number};
@@ -48,8 +47,7 @@ fn push_labelled(
     wrote: &[u8],
     read: &Excerpt,
 ) -> Result<(), AllocError>
-    ensures { (bytes : List ℕ) → read.now ≡ excerpt_of bytes
-        → OnOk result (string_bytes out.new ≡ string_bytes out.old ++ labelled_text label wrote.now bytes) }
+    ensures { OnOk result (string_bytes out.new ≡ string_bytes out.old ++ labelled_shown_text label wrote.now read.now) }
 {
     match label {
         Some(flow) => push_flow_bytes(out, flow, wrote, read),
@@ -64,8 +62,7 @@ fn push_flow_bytes(
     wrote: &[u8],
     read: &Excerpt,
 ) -> Result<(), AllocError>
-    ensures { (bytes : List ℕ) → read.now ≡ excerpt_of bytes
-        → OnOk result (string_bytes out.new ≡ string_bytes out.old ++ flow_bytes_text flow wrote.now bytes) }
+    ensures { OnOk result (string_bytes out.new ≡ string_bytes out.old ++ flow_shown_text flow wrote.now read.now) }
 {
     push_number(out, "", flow.guest as u64)?;
     push_number(out, " ", flow.host as u64)?;
@@ -76,8 +73,7 @@ fn push_flow_bytes(
 
 // What a stream's program read, by an excerpt.
 fn push_read(out: &mut String, read: &Excerpt) -> Result<(), AllocError>
-    ensures { (bytes : List ℕ) → read.now ≡ excerpt_of bytes
-        → OnOk result (string_bytes out.new ≡ string_bytes out.old ++ (codes " read " ++ counted_text bytes ++ codes "\n")) }
+    ensures { OnOk result (string_bytes out.new ≡ string_bytes out.old ++ (codes " read " ++ excerpt_text read.now ++ codes "\n")) }
 {
     out.push_str(" read ")?;
     push_excerpt(out, read)?;
