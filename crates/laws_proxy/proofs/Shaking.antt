@@ -4,14 +4,14 @@ use Rattle.laws_device.proofs.{Seats.{AgreesBy, Carried}, Walk.Turning.{AfterAcc
 use Rattle.laws_device.proofs.{Keeping.{Goes, Keeps, asking, keeps_weaker}, Carrying.{Fact, fact_called, fact_goes, IsHeldBy, IsToldBy, StreamedOver, With, streams_call}}
 use Rattle.laws_device.proofs.{Turning.label_keeps, Ringing.tells_weaker, Carried.{HostCalls.{accepted_host, some_seen}, Hands.{ends_by, no_line, without_after}}}
 use Rattle.laws_device.proofs.Carried.{Hands.without_none, Opens.{closed_over, hand_of, label_over, line_left, line_more, line_now, line_over, one_byte}, Changing.{called_host, goes_on}}
-use Rattle.laws_device.{proofs.{Carried.Lines.{line_ends, line_whole}, Named.Tables.{some_after, some_from}}, specs.Carried.Streamed.{Ports, ports_of, IsStreamed, Seen, has_line}}
+use Rattle.laws_device.{proofs.{Carried.Lines.{line_ends, line_whole}, Named.Tables.{some_after, some_from}}, specs.Carried.Streamed.{Ports, ports_of, IsStreamed, Seen}}
 use Rattle.laws_device.{specs.Carried.Streamed.{AreShakenBut, look, reading}, proofs.Carried.{Opens.dropped_host, Streamed.unfresh}}
 use Rattle.vs_proxy_parts.specs.{Handshakes.{next_after, next_flow, accept_one, read_byte, tick_handshake, with_line, without_stream}, State.{Handshake, Turning}}
 use Rattle.vs_flow.{proofs.Tables.accepted, specs.{Table.{refusal, Table}, declared.{flow.Flow.Flow, table.TableFault.TableFault}}}
 use Rattle.std.{proofs.Common.{◌≡◌, ℕ, ◌≤◌, Bool, true, false, List, ◌++◌, Some, None, sym, ap, subst, ◌≢◌, ◌∙◌, ◌∷◌, []}, specs.{List.All, Option.ForSome}}
 use Rattle.vs_limits.specs.declared.TheConstants.{ASSIGNED_FIRST}
 use Rattle.vs_outside.specs.{Host.{HostContents, accept_answer, after_accept, after_close, after_label, after_read, called}, declared.host_net.Accepted.Accepted}
-use Rattle.vs_outside.specs.{declared.host_net.StreamRead.StreamRead, HostBytes.after_line}
+use Rattle.vs_outside.specs.{declared.host_net.StreamRead.StreamRead, HostBytes.{after_line, has_line}}
 use Rattle.vs_page.specs.Log.{Log}
 use Rattle.vs_uds.{proofs.Decided.port_fits, specs.ConnectLine.connect_step}
 use Rattle.vs_device_parts.specs.{Calls.{Accept, Allows, CloseStream, HostMoves, IsReadOf, Label, ReadStream, Situation}, Connections.with_client, State.DeviceState}

@@ -5,7 +5,7 @@ use Rattle.std.proofs.{Common.{Option, codes, decimal, refl, sym, ap, subst, ◌
 use Rattle.vs_credit.specs.Credit.{free_of, unread_of}
 use Rattle.vs_conn.specs.{End.{ConnectionEnd, may_send_of}, Follows.{Follows, IsLeftBy}, Shut.is_both, declared.end.State.{State, TheVariants.{Live}}}
 use Rattle.vs_flow.specs.{Connection.Connection, Flow.host_asks, Table.Table, declared.flow.Flow.Flow}
-use Rattle.vs_outside.specs.{Host.HostContents, HostBytes.{after_line, host_read}}
+use Rattle.vs_outside.specs.{Host.HostContents, HostBytes.{after_line, has_line, host_read}}
 use Rattle.vs_uds.specs.OkLine.{ok_text}
 use Rattle.laws_history.specs.{History.{History, Side, gots, puts}, Packets.{bytes, told_forwarded}}
 use Rattle.vs_page.{specs.{Fair.{IsFairLog, current, number_of, payload_got}, Log.{Device, Log, history_of, side_of}, Open.left_kind}, proofs.Payload.length-payload_of}
@@ -13,8 +13,9 @@ use Rattle.vs_page.proofs.Present.{present_got}
 use Rattle.vs_device_parts.specs.State.{DeviceConnection, DeviceEntry}
 use Rattle.vs_proxy_parts.specs.State.{Handshake}
 use Rattle.laws_tables.{specs.{Ends.{Ends, ends_of, is_among, replied, is_new_in}, Heard.heard_of, Matches.{IsLeftOn, Matches}, Steps.HasEnd}, proofs.Fair.heard_less}
-use Rattle.laws_device.{specs.Carried.Streamed.{IsJoined, IsStreamed, Ports, connection_of, count_in, gives_in, has_line, look}, proofs.Carried.{Hosts.there, Lines.{after_is_rest, ok_front}}}
-use Rattle.laws_device.proofs.Carried.Lines.{after_longer, line_ends, line_whole, rest_of}
+use Rattle.laws_device.{specs.Carried.Streamed.{IsJoined, IsStreamed, Ports, connection_of, count_in, gives_in, look}, proofs.Carried.{Hosts.there, Lines.ok_front}}
+use Rattle.laws_device.proofs.Carried.Lines.{after_longer, line_ends, line_whole}
+use Rattle.vs_outside.proofs.Lines.{after_is_rest, rest_before}
 use Rattle.laws_rest.proofs.Hosts.{read_own}
 
 -- What an end that may send, but lacks credit.
@@ -54,14 +55,6 @@ module _ (first : ℕ) (part : Ends) (log : Log) (matches : Matches Device first
   some_unread both = grind (arith, common_steps)
 
 -- Of what a stream was given, the lines aside, and what is pending for it.
-no_rest : (xs : List ℕ) → has_line xs ≡ false → rest_of xs ≡ []
-no_rest [] none = refl
-no_rest (x ∷ xs) none = by (x == 10) none (no_rest xs)
-  where
-    by : (b : Bool) → (b || has_line xs) ≡ false → (has_line xs ≡ false → rest_of xs ≡ []) → cond b xs (rest_of xs) ≡ []
-    by true none rest = absurd cc
-    by false none rest = rest none
-
 abbrev Within : List ℕ → List ℕ → List ℕ → Type 0
 Within read pending got = (length read ≡ 0) ⊎ (length read + length pending ≤ length got)
 
@@ -80,7 +73,7 @@ read_within true port given line pending got is = by (has_line given) refl
     front = codes "OK " ++ decimal port
 
     by : (b : Bool) → has_line given ≡ b → Within (after_line given) pending got
-    by false none = inl (ap (λ (bs : List ℕ). length bs) (after_is_rest given ∙ no_rest given none))
+    by false none = inl (ap (λ (bs : List ℕ). length bs) (after_is_rest given ∙ rest_before given none))
     by true some = inr (split_len (after_line given) line pending got
         (sym (after_longer given (line ++ pending) some) ∙ ap after_line is ∙ after_longer (front ++ 10 ∷ []) got (line_whole front)
         ∙ ap (λ (bs : List ℕ). bs ++ got) (line_ends front (ok_front port))))

@@ -5,7 +5,7 @@ use Rattle.std.specs.Option.{ForSome, option_map_or}
 use Rattle.vs_flow.specs.Connection.{Connection}
 use Rattle.vs_page.specs.{Fair.IsPrefixOf, Log.Log}
 use Rattle.vs_outside.specs.{Host.{HostContents, Stream, stream_at}, HostBytes.{after_line, host_read, host_wrote, labelled_with, read_after_ok, stream_of, wrote_after_connect}}
-use Rattle.laws_device.proofs.Carried.Lines.{after_is_rest, rest_of}
+use Rattle.vs_outside.proofs.Lines.{after_is_rest, rest_of}
 use Rattle.vs_ring_shared.specs.declared.counters.Met.{Met}
 use Rattle.vs_echo.specs.Echo.{IsEcho}
 use Rattle.laws_settled.specs.Begun.{IsUnlabelled, Start, start_with}

@@ -3,7 +3,7 @@ use Rattle.std.proofs.lemmas.Grind.{common_steps}
 use Rattle.std.proofs.Common.{◌≡◌, ℕ, ◌+◌, ◌==◌, ◌||◌, not, nat_lt, Bool, true, false, cond, List, [], ◌∷◌, ◌++◌, length, drop, Some, None, refl, sym, ap, ◌∙◌, arith}
 use Rattle.std.specs.{List.prefix_len, Option.option_map_or}
 use Rattle.vs_excerpt.specs.{Excerpt.excerpt_of, declared.Excerpt.Excerpt}
-use Rattle.vs_outside.specs.{HostBytes.after_line, KeptBytes.{IsKept, has_line, read_of_given}}
+use Rattle.vs_outside.specs.{HostBytes.{after_line, has_line}, KeptBytes.{IsKept, read_of_given}}
 
 -- Byte by byte.
 abbrev pub rest_of : List ℕ → List ℕ
@@ -38,7 +38,7 @@ rest_more (x ∷ xs) ys = by (x == 10) (rest_more xs ys)
     by true rest = refl
     by false rest = rest
 
-rest_before : (xs : List ℕ) → has_line xs ≡ false → rest_of xs ≡ []
+pub rest_before : (xs : List ℕ) → has_line xs ≡ false → rest_of xs ≡ []
 rest_before [] is = refl
 rest_before (x ∷ xs) is = by (x == 10) is (rest_before xs)
   where
@@ -46,7 +46,7 @@ rest_before (x ∷ xs) is = by (x == 10) is (rest_before xs)
     by true is rest = absurd cc
     by false is rest = rest is
 
-behind_more : (xs ys : List ℕ) → after_line (xs ++ ys) ≡ after_line xs ++ cond (has_line xs) ys (after_line ys)
+pub behind_more : (xs ys : List ℕ) → after_line (xs ++ ys) ≡ after_line xs ++ cond (has_line xs) ys (after_line ys)
 behind_more xs ys =
     rw (after_is_rest (xs ++ ys), after_is_rest xs, after_is_rest ys) (rest_more xs ys ∙ by (has_line xs) (rest_before xs))
   where

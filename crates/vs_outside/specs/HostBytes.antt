@@ -1,12 +1,16 @@
 -- What the programs of a host wrote and read on a flow, without the two handshake lines of a client (Firecracker's vsock documentation).
 use Rattle.std.specs.Prelude.{ℕ, ◌+◌, ◌-◌, ◌==◌, Bool, false, if◌then◌else◌, List, [], filter, drop, position, slice_get, Option}
-use Rattle.std.specs.{Prelude.option_and_then, Option.{option_map, option_map_or}}
+use Rattle.std.specs.{List.list_any, Prelude.option_and_then, Option.{option_map, option_map_or}}
 use Rattle.vs_flow.specs.{declared.flow.Flow.Flow, Connection.Connection, Flow.same_flow}
 use Rattle.vs_outside.specs.{declared.mem_stream.TheConstants.LINE_END, Host.Stream, Host.HostContents, Host.stream_at}
 
 -- The bytes after the first line, which ends at the first LF. There are none while the line isn't whole.
 abbrev pub after_line : List ℕ → List ℕ
 after_line bytes = option_map_or (λ place. drop (place + 1) bytes) (position (λ b. b == LINE_END) bytes) []
+
+-- Whether a line ends in the bytes.
+abbrev pub has_line : List ℕ → Bool
+has_line bytes = list_any (λ b. b == LINE_END) bytes
 
 -- What the host's program wrote and the proxy took: behind the CONNECT line, where a client made the stream.
 abbrev pub wrote_after_connect : Stream → List ℕ

@@ -1,11 +1,7 @@
 -- What a stream of a host in memory keeps of the bytes that it was given.
-use Rattle.std.specs.{List.list_any, Prelude.{◌≡◌, ℕ, ◌==◌, Bool, true, if◌then◌else◌, List}}
+use Rattle.std.specs.Prelude.{◌≡◌, ℕ, Bool, true, if◌then◌else◌, List}
 use Rattle.vs_excerpt.specs.{Excerpt.excerpt_of, declared.Excerpt.Excerpt}
-use Rattle.vs_outside.specs.{declared.mem_stream.TheConstants.LINE_END, HostBytes.after_line}
-
--- whether a line ends in the bytes
-abbrev pub has_line : List ℕ → Bool
-has_line bytes = list_any (λ b. b == LINE_END) bytes
+use Rattle.vs_outside.specs.HostBytes.{after_line, has_line}
 
 -- What the host's program reads of them: what stands behind the OK line, where a client made the stream.
 abbrev pub read_of_given : Bool → List ℕ → List ℕ

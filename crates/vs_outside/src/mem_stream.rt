@@ -1,7 +1,7 @@
 //! A stream of a host in memory.
 ghost use Rattle.std.specs.{Prelude.{◌≡◌, ◌≤◌, ◌<◌, ◌-◌, ◌==◌, ◌++◌, ◌||◌, true, if◌then◌else◌, length, min, take, position, IfSome, IfOk, OnOk, OnErr, is_none}, Option.option_map};
 ghost use Rattle.vs_outside.specs.{Host.{dialed_stream, is_waiting, read_of, taken_of, write_of}, HostProgram.{plain, client_stream, ReadsStream, stream_after_write, is_over}};
-ghost use Rattle.vs_outside.specs.{HostProgram.{with_bytes, changed}, HostBytes.{after_line, wrote_after_connect, read_after_ok}, KeptBytes.has_line};
+ghost use Rattle.vs_outside.specs.{HostProgram.{with_bytes, changed}, HostBytes.{after_line, has_line, wrote_after_connect, read_after_ok}};
 ghost use Rattle.vs_excerpt.specs.Excerpt.{excerpt_of};
 
 use crate::host_net::{StreamRead, StreamState, StreamWrite};

@@ -5,7 +5,8 @@ use Rattle.std.{proofs.{Common.{length-append, append_assoc, replicate}, lemmas.
 use Rattle.vs_proxy_parts.specs.{Handshakes.{with_line, without_stream}, State.Handshake}
 use Rattle.vs_uds.specs.{ConnectLine.{connect_port, connect_step, connect_word}, Reading.is_decided, declared.connect.TheConstants.CONNECT_MAX}
 use Rattle.vs_uds.proofs.{ConnectLines.IsWordLine-word_port, Decided.decided}
-use Rattle.laws_device.specs.Carried.Streamed.{HasHand, has_line}
+use Rattle.vs_outside.specs.HostBytes.{has_line}
+use Rattle.laws_device.specs.Carried.Streamed.{HasHand}
 use Rattle.vs_uds.specs.declared.scan.Step.TheVariants as step
 
 -- The lines without that of a stream.

@@ -5,7 +5,7 @@ use Rattle.std.proofs.Common.{◌≡◌, ◌≢◌, ℕ, Bool, true, false, cond
 use Rattle.std.{proofs.{Common.{inl, inr}, lemmas.List.{append-nil, Elements.{All-push, All-weaker}, Quantifiers.all_pairs_push}}, specs.{List.All, Option.option_map}}
 use Rattle.std.specs.Option.{option_map_or}
 use Rattle.vs_outside.specs.Host.{HostContents, Stream, accept_answer, after_accept, after_close, after_read, after_write, called, give_bytes, next_bytes, stream_at, take_bytes}
-use Rattle.vs_outside.{specs.{Host.waits, HostProgram.{after_client, client_stream}, HostBytes.after_line}, proofs.Frames.accepts_waiting}
+use Rattle.vs_outside.{specs.{Host.waits, HostProgram.{after_client, client_stream}, HostBytes.{after_line, has_line}}, proofs.Frames.accepts_waiting}
 use Rattle.vs_conn.specs.declared.end.State.TheVariants.{Asked}
 use Rattle.vs_device_parts.specs.{Connections.cut_off, State.{DeviceConnection, DeviceEntry}}
 use Rattle.vs_flow.specs.{Connection.Connection, Table.{IsTable, Table, with_value, without}, declared.flow.Flow.Flow}
@@ -18,7 +18,7 @@ use Rattle.laws_device.specs.Carried.Streamed.{client_waits, connection_of, coun
 use Rattle.laws_device.proofs.Carried.{Hands.{has_pushed, pushes}, Streamed.older_back}
 use Rattle.std.{proofs.lemmas.{Bool.Decides.nat_tests, List.Quantifiers.position-Some, Option.{get_or_from_slice_get, slice_get_within}}, specs.Prelude.{position, slice_get}}
 use Rattle.vs_outside.specs.Host.{fails_now, is_waiting}
-use Rattle.laws_device.{specs.Carried.Streamed.{has_line, line_for, look, reading, seen, seen_as, taken_of}, proofs.Carried.Streamed.{one_seen, is_or_not, join_moves, join_of}}
+use Rattle.laws_device.{specs.Carried.Streamed.{line_for, look, reading, seen, seen_as, taken_of}, proofs.Carried.Streamed.{one_seen, is_or_not, join_moves, join_of}}
 use Rattle.laws_device.proofs.Carried.{Streamed.{moved_streamed, no_entry, one_streamed, recounted, recounted_labels, same_streamed, unlabelled_streamed}, Tabled.stream_stays}
 use Rattle.laws_device.proofs.Carried.{Lines.after_longer, Hosts.{changed_seen, counts_more, counts_still, new_look, none_there, others_look, others_seen, there, unseen_none}}
 use Rattle.vs_outside.specs.declared.host_net.Accepted.TheVariants as accepted

@@ -1,46 +1,13 @@
 -- What stands behind the first line of some bytes.
 use Rattle.std.proofs.lemmas.Grind.{common_steps}
-use Rattle.std.proofs.Common.{◌≡◌, ℕ, zero, suc, codes, decimal, ◌+◌, ◌==◌, ◌||◌, not, nat_lt, Bool, true, false, cond, List, [], ◌∷◌, ◌++◌, length, drop, Some, None, refl, sym, ap, subst, ◌∙◌, arith}
-use Rattle.std.{proofs.lemmas.Bool.Decides.nat_tests, specs.{Fmt.{digit_glyph, digits, digits_onto}, List.prefix_len, Option.option_map_or, Prelude.{◌/◌, ◌%◌}}}
-use Rattle.vs_outside.specs.HostBytes.{after_line}
+use Rattle.std.proofs.Common.{◌≡◌, ℕ, zero, suc, codes, decimal, ◌+◌, ◌==◌, ◌||◌, Bool, true, false, cond, List, [], ◌∷◌, ◌++◌, refl, sym, ap, subst, ◌∙◌, arith}
+use Rattle.std.{proofs.lemmas.Bool.Decides.nat_tests, specs.{Fmt.{digit_glyph, digits, digits_onto}, Prelude.{◌/◌, ◌%◌}}}
+use Rattle.vs_outside.{specs.HostBytes.{after_line, has_line}, proofs.Lines.{after_is_rest, behind_more, rest_of}}
 use Rattle.vs_page.specs.Fair.{IsPrefixOf}
-use Rattle.laws_device.specs.Carried.Streamed.{has_line}
-
--- Byte by byte.
-abbrev pub rest_of : List ℕ → List ℕ
-rest_of [] = []
-rest_of (x ∷ xs) = cond (x == 10) xs (rest_of xs)
-
-abbrev cut : ℕ → List ℕ → List ℕ
-cut n xs = option_map_or (λ place. drop (place + 1) xs) (cond (nat_lt n (length xs)) (Some n) None) []
-
-first_cut : (x : ℕ) (xs : List ℕ) → cut 0 (x ∷ xs) ≡ xs
-first_cut x xs = grind (arith, common_steps)
-
-next_cut : (x n : ℕ) (xs : List ℕ) → cut (1 + n) (x ∷ xs) ≡ cut n xs
-next_cut x n xs = grind (arith, common_steps)
-
-pub after_is_rest : (xs : List ℕ) → after_line xs ≡ rest_of xs
-after_is_rest [] = refl
-after_is_rest (x ∷ xs) = by (x == 10) (after_is_rest xs)
-  where
-    by : (b : Bool) → after_line xs ≡ rest_of xs
-        → cut (cond (not b) (1 + prefix_len (λ (y : ℕ). not (y == 10)) xs) 0) (x ∷ xs) ≡ cond b xs (rest_of xs)
-    by true rest = first_cut x xs
-    by false rest = next_cut x (prefix_len (λ (y : ℕ). not (y == 10)) xs) xs ∙ rest
 
 -- More bytes stand behind it.
-rest_longer : (xs ys : List ℕ) → has_line xs ≡ true → rest_of (xs ++ ys) ≡ rest_of xs ++ ys
-rest_longer [] ys is = absurd cc
-rest_longer (x ∷ xs) ys is = by (x == 10) is (rest_longer xs ys)
-  where
-    by : (b : Bool) → (b || has_line xs) ≡ true → (has_line xs ≡ true → rest_of (xs ++ ys) ≡ rest_of xs ++ ys)
-        → cond b (xs ++ ys) (rest_of (xs ++ ys)) ≡ cond b xs (rest_of xs) ++ ys
-    by true is rest = refl
-    by false is rest = rest is
-
 pub after_longer : (xs ys : List ℕ) → has_line xs ≡ true → after_line (xs ++ ys) ≡ after_line xs ++ ys
-after_longer xs ys is = after_is_rest (xs ++ ys) ∙ rest_longer xs ys is ∙ ap (λ (bytes : List ℕ). bytes ++ ys) (sym (after_is_rest xs))
+after_longer xs ys is = behind_more xs ys ∙ ap (λ (b : Bool). after_line xs ++ cond b ys (after_line ys)) is
 
 pub line_longer : (xs ys : List ℕ) → has_line xs ≡ true → has_line (xs ++ ys) ≡ true
 line_longer xs ys is = grind (arith, common_steps)

@@ -11,14 +11,14 @@ use Rattle.vs_header.specs.declared.Header.{Header}
 use Rattle.laws_history.specs.{History.{Got, gots, puts}, Packets.{has, is_clean_rst, is_request}, declared.packet.Packet.Packet}
 use Rattle.vs_limits.specs.declared.TheConstants.{BUF_ALLOC, DEVICE_CONNECTIONS}
 use Rattle.vs_outside.specs.Host.{HostContents, Stream, after_close, after_dial, after_label, after_read, called, dialed_stream, fails_now, has_label, next_bytes, read_answer}
-use Rattle.vs_outside.{specs.{Host.{read_of, stream_at, take_bytes, with_label_call}, HostBytes.after_line}, proofs.Frames.{keeps_others, stream_at-with_stream}}
+use Rattle.vs_outside.{specs.{Host.{read_of, stream_at, take_bytes, with_label_call}, HostBytes.{after_line, has_line}}, proofs.Frames.{keeps_others, stream_at-with_stream}}
 use Rattle.vs_page.specs.{Fair.{IsFairLog, current, number_of, payload_got, payload_of, payload_put}, Log.{Device, Log, and_then, flow_got, history_of}}
 use Rattle.vs_page.{specs.declared.log.LogEntry.TheVariants.GotPacket, proofs.{Flows.same_self, Present.present_got}}
 use Rattle.vs_proxy_parts.specs.{Handshakes.{with_line, without_stream}, State.Handshake}
 use Rattle.vs_uds.specs.{OkLine.ok_text, Reading.is_decided, declared.connect.TheConstants.CONNECT_MAX}
 use Rattle.laws_tables.{specs.{Drains.Drains, Ends.{AreDistinct, is_among}, Steps.port_after}, proofs.Adding.{got_nothing, put_over_got}}
 use Rattle.laws_device.specs.Carried.Streamed.{Serving, heard_at, serves, AreCounted, AreLines, AreOlder, AreShaken, AreShakenBut, AreStreamed, CountMatches, HasHand, IsShaking, IsStreamed}
-use Rattle.laws_device.specs.Carried.Streamed.{Ports, Seen, connection_of, count_in, has_line, line_for, look, reading}
+use Rattle.laws_device.specs.Carried.Streamed.{Ports, Seen, connection_of, count_in, line_for, look, reading}
 use Rattle.laws_device.{specs.Carried.Streamed.{seen, seen_as}, proofs.Carried.Hosts.{changed_seen, counts_still, counts_then, here_then, new_there, none_there, others_seen}}
 use Rattle.laws_device.proofs.Carried.{Hosts.{others_then, others_there, there}, HostCalls.{closed_host, shut_last, some_seen}, Counted.{IsAsked, counted_on, fewer_served, kept_less, slot_served}}
 use Rattle.laws_device.proofs.Carried.{Counted.{number_elsewhere, request_asks}, Streamed.{forgets, is_or_not, not_none, older_back, one_streamed, opened_streamed}}

@@ -4,9 +4,9 @@ use Rattle.std.specs.{List.{All, list_any}, Option.{option_map, option_map_or}, 
 use Rattle.vs_conn.specs.{End.{ConnectionEnd, is_of}, declared.end.State.{State, TheVariants.{Answering, Asked, Live}}}
 use Rattle.vs_device_parts.specs.State.{DeviceConnection, DeviceEntry, DeviceState}
 use Rattle.vs_flow.specs.{Connection.Connection, Flow.host_asks, Table.Table, declared.flow.Flow.Flow}
-use Rattle.vs_outside.specs.{Host.{HostContents, Stream, stream_at, waits}, HostBytes.{after_line, labelled_with}, HostProgram.is_closed}
+use Rattle.vs_outside.specs.{Host.{HostContents, Stream, stream_at, waits}, HostBytes.{after_line, has_line, labelled_with}, HostProgram.is_closed}
 use Rattle.laws_device.specs.Named.Streams.{stream_under}
-use Rattle.vs_uds.specs.{declared.{scan.TheConstants.LF, connect.TheConstants.CONNECT_MAX}, OkLine.ok_text, Path.path_of, Reading.is_decided}
+use Rattle.vs_uds.specs.{declared.connect.TheConstants.CONNECT_MAX, OkLine.ok_text, Path.path_of, Reading.is_decided}
 use Rattle.vs_limits.specs.declared.TheConstants.{DEVICE_CONNECTIONS}
 use Rattle.vs_page.specs.{Fair.{IsPrefixOf, number_of, payload_got, payload_put}, Log.{Device, Log, history_of}, declared.log.LogEntry.TheVariants.GotPacket}
 use Rattle.vs_proxy_parts.specs.State.{Handshake}
@@ -57,12 +57,9 @@ client_waits = record { label = None; by_client = true; waiting = true; closed =
 abbrev pub reading : List ℕ → Seen
 reading line = record { label = None; by_client = true; waiting = false; closed = false; taken = line; given = [] }
 
--- What was taken of a stream behind its CONNECT line, where it has one; and whether that line is whole.
+-- What was taken of a stream behind its CONNECT line, where it has one.
 abbrev pub taken_of : Seen → List ℕ
 taken_of s = if s.by_client then after_line s.taken else s.taken
-
-abbrev pub has_line : List ℕ → Bool
-has_line bytes = list_any (λ b. b == LF) bytes
 
 -- The OK line that a stream is given first.
 abbrev pub line_for : Flow → List ℕ

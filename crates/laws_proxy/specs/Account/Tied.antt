@@ -3,11 +3,11 @@ use Rattle.std.specs.{Prelude.{◌≡◌, ◌≢◌, ℕ, ◌++◌, ◌&&◌, no
 use Rattle.vs_conn.specs.declared.end.State.TheVariants.{Asked, Ended}
 use Rattle.vs_flow.specs.{Table.{Table, IsTable, entry_of}, declared.flow.Flow.Flow}
 use Rattle.vs_page.specs.Fair.{IsPrefixOf}
-use Rattle.vs_outside.specs.HostBytes.{after_line}
+use Rattle.vs_outside.specs.HostBytes.{after_line, has_line}
 use Rattle.vs_uds.specs.{OkLine.ok_text, Reading.is_decided, declared.connect.TheConstants.CONNECT_MAX}
 use Rattle.vs_device_parts.specs.State.{DeviceConnection, DeviceEntry}
 use Rattle.laws_tables.specs.Drains.{Drains}
-use Rattle.laws_device.specs.Carried.Streamed.{gives, has_line}
+use Rattle.laws_device.specs.Carried.Streamed.{gives}
 use Rattle.vs_proxy_parts.specs.State.{Handshake, ProxyState}
 use Rattle.laws_proxy.specs.Account.Made.{Account, Made, account_of, new_account, payload_put, payload_taken}
 

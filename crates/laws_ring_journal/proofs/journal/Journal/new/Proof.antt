@@ -10,7 +10,8 @@ use types.{Logic.Logic, Kit.{‵, raw, ◌⊛◌, ◌$◌, ◌∵◌, !, qed, mo
 use types.ByLocal.{free_all, look_at, sets}
 use denote.{RattleType.owns, Signature.types_at, Steps.nothing, Triple.{Clauses.{Clauses, Ended, closing}, Entry.alive, Spec.{Meets, triple_of}, Table.entered, Walked.says}}
 use denote.Triple.Walked.{Stays, walk_of, ends_at, walk_Meets}
-use Rattle.laws_ring_journal.{proofs.Walks.{none, none_made}, specs.contracts.journal.Journal.new.Key.name as #self}
+use Rattle.vs_excerpt.proofs.Walks.{none, none_made}
+use Rattle.laws_ring_journal.specs.contracts.journal.Journal.new.Key.{name as #self}
 use Rattle.laws_ring_journal.specs.contracts.journal.Journal as Journal
 use Rattle.laws_ring_journal.specs.contracts.journal.Journal.new as F
 use Rattle.laws_ring_journal.proofs.journal.Journal.new.Statement as stated

@@ -10,7 +10,8 @@ use types.{Logic.Logic, Kit.{‵, raw, ◌⊛◌, prop, ◌$◌, ◌∵◌, !, q
 use types.ByLocal.{alloc_all, pass_all, free_all, look_at, sets}
 use denote.{Exit.yes, RattleType.owns, Builtin.RefOf, Signature.{plain, types_at, named_lft}, Steps.nothing, Triple.{Clauses.{Clauses, Ended, closing}, Entry.alive, Spec.Meets}}
 use denote.Triple.{Spec.triple_of, Table.entered, Walked.{says, Stays, stay_dropped, walk_of, ends_at, walk_Meets, Goes-dropped}}
-use Rattle.laws_ring_journal.{proofs.Walks.{none, none_made}, specs.{Noted.noted, contracts.journal.Journal.then.Key.name as #self}}
+use Rattle.vs_excerpt.proofs.Walks.{none, none_made}
+use Rattle.laws_ring_journal.specs.{Noted.noted, contracts.journal.Journal.then.Key.name as #self}
 use Rattle.laws_ring_journal.specs.contracts.journal.Journal as Journal
 use Rattle.laws_ring_journal.specs.contracts.journal.Call as Call
 use Rattle.laws_ring_journal.specs.contracts.journal.Journal.then as F
