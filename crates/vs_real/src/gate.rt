@@ -10,7 +10,7 @@ use vs_outside::Gate;
 
 /// So many pauses in a row keep the processor and look again after a moment: a sleep takes longer than it is asked for, and where the other
 /// side moves soon that would be the longer wait.
-const LOOKS: u32 = 256;
+const LOOKS: u32 = 64;
 
 /// How often such a pause reads the clock, which takes about a microsecond in all.
 const READINGS: u32 = 16;
