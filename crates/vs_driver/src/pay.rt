@@ -88,7 +88,21 @@ impl Driver {
         }
         let slots = self.slots.all();
         for slot in slots.as_slice() {
-            self.pay_slot(ring, *slot, tally);
+            self.pay_if_owed(ring, *slot, tally);
+        }
+    }
+
+    // Stages what the connection in a slot owes, while pages are free. One that may owe nothing isn't looked at.
+    fn pay_if_owed<R: DriverRing>(&mut self, ring: &mut R, slot: Slot, tally: &mut Tally)
+        requires ring { IsAtWork Tx (R.size ring.old) (R.flight ring.old) (R.staged ring.old) self.old }
+        requires few { tally.old.count < 2 ^ 15 }
+        requires may { MayPublishAll (pay_slot slot (round_of self.old tally.old)) (R.contents ring.old) }
+        ensures ring { IsAtWork Tx (R.size ring.new) (R.flight ring.new) (R.staged ring.new) self.new }
+        ensures calls { Plays (pay_slot slot (round_of self.old tally.old)) (R.contents ring.old) (round_of self.new tally.new) (R.contents ring.new) }
+        ensures count { tally.new.count ≤ tally.old.count + OWED_MAX }
+    {
+        if self.slots.may_owe_in(slot) {
+            self.pay_slot(ring, slot, tally);
         }
     }
 

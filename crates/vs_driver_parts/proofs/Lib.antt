@@ -3,6 +3,7 @@ pub mod Lists
 pub mod ListenerChanges
 pub mod Ids
 pub mod Numbers
+pub mod Noting
 pub mod SlotChanges
 pub mod Clean
 pub mod SameIds

@@ -6,31 +6,12 @@ use Rattle.std.specs.Option.{option_map}
 use Rattle.vs_conn.specs.End.{owes_of}
 use Rattle.vs_flow.specs.{declared.flow.Flow.Flow, Table.{Table, IsTable, entry_under, value_under, with_value, without, next_entry, revalued, with_entry}}
 use Rattle.vs_flow.proofs.{Lookups.{find_place, entry_under-with_value}, Tables.with_value_sound, Entries.{find_none, found_passes}}
-use Rattle.vs_driver_parts.specs.{Connections.{gone_as, is_let_go, OweNothing}, Held.{HeldSlots, left_in}, SlotFields.{AreKept, IsNoted}, declared.slots.Slots.TheInside.Inside}
+use Rattle.vs_driver_parts.specs.{Connections.{gone_as, is_let_go}, Held.{HeldSlots, left_in}, Owing.IsNoted, SlotFields.AreKept, declared.{owing.Owing.Owing, slots.Slots.TheInside.Inside}}
 use Rattle.vs_driver_parts.{specs.State.{DriverConnection, DriverEntry, GoneConnection, is_known_as}, proofs.{Lists.{one_passes, removed_one}, Numbers.{id_in, id_there, id_under}}}
-use Rattle.vs_driver_parts.proofs.{Numbers.numbers_with_value, Ids.{value_of, has_slot, under, known_by_slot, unless_closed, entry_has}, Clean.clean_value}
+use Rattle.vs_driver_parts.proofs.{Noting.noted_with_value, Numbers.numbers_with_value, Ids.{value_of, has_slot, under, known_by_slot, unless_closed, entry_has}, Clean.clean_value}
 
--- What is noted with a connection that has changed, and with one more.
-module _ (old new : Bool) (d : DriverConnection) (noted : IsNoted old new d) (t : Table DriverConnection) where
-  abbrev Owes : DriverEntry → Type 0
-  Owes e = owes_of e.value.end ≡ None
-
-  either : (b : Bool) (e : DriverEntry) → owes_of d.end ≡ None → Owes e → Owes (cond b (record e { value = d }) e)
-  either true e here other = here
-  either false e here other = other
-
-  pub noted_with_value : (slot : ℕ) → (old ≡ false → OweNothing t) → new ≡ false → OweNothing (with_value t slot d)
-  noted_with_value slot kept off = All-map Owes (revalued slot d) t.entries
-      (λ k e lt. let x = get_or t.entries k e in either (x.slot == slot) x (noted.none off) (kept (noted.still off) k e lt))
-
-  pub noted_with_entry : (flow : Flow) → (old ≡ false → OweNothing t) → new ≡ false → OweNothing (with_entry t flow d)
-  noted_with_entry flow kept off = All-push Owes t.entries (next_entry t flow d) (kept (noted.still off)) (noted.none off)
-
-pub noted_without : (owes : Bool) (t : Table DriverConnection) (slot : ℕ) → (owes ≡ false → OweNothing t) → owes ≡ false → OweNothing (without t slot)
-noted_without owes t slot kept off = All-filter (λ (e : DriverEntry). not (e.slot == slot)) (λ (e : DriverEntry). owes_of e.value.end ≡ None) t.entries (kept off)
-
-pub kept_with_connection : (s : Inside) (slot : ℕ) (d : DriverConnection) (new : Bool) → AreKept s → id_in s.table slot d.id ≡ d.id
-    → IsNoted s.owes new d → AreKept (record s { table = with_value s.table slot d; owes = new })
+pub kept_with_connection : (s : Inside) (slot : ℕ) (d : DriverConnection) (new : Owing) → AreKept s → id_in s.table slot d.id ≡ d.id
+    → IsNoted s.owes new slot d → AreKept (record s { table = with_value s.table slot d; owes = new })
 kept_with_connection s slot d new kept id noted = record {
   numbers = numbers_with_value s.first_id s.next_port s.next_id s.table s.gone.items kept.numbers slot d id;
   clean = clean_value s.next_port s.table s.clean slot d kept.clean;
@@ -42,7 +23,7 @@ kept_with_connection s slot d new kept id noted = record {
   buffers = omega (arith, kept.buffers, length-map s.table.entries (revalued slot d));
   buffer_room = kept.buffer_room;
   spare = kept.spare;
-  noted = noted_with_value s.owes new d noted s.table slot kept.noted;
+  noted = noted_with_value s.owes new slot d noted s.table kept.noted;
 }
 
 -- A connection is closed: its id is none's then.

@@ -9,5 +9,6 @@ pub mod Playing
 pub mod Held
 pub mod PageCounts
 pub mod PageFields
+pub mod Owing
 pub mod SlotFields
 pub mod Steps

@@ -3,7 +3,7 @@ use Rattle.std.specs.{Prelude.{◌≡◌, ◌≢◌, ℕ, Bool, false, None, ◌
 use Rattle.vs_conn.specs.End.{owes_of}
 use Rattle.vs_flow.specs.{Flow.host_asks, Table.{Table, IsTable, entry_of}, declared.flow.Flow.Flow}
 use Rattle.vs_limits.specs.declared.TheConstants.{DRIVER_CONNECTIONS, LAST_ID, LAST_PORT}
-use Rattle.vs_driver_parts.specs.{declared.slots.Slots.TheInside.Inside, Connections.OweNothing, Room.IsSpare, State.{DriverConnection, GoneConnection}}
+use Rattle.vs_driver_parts.specs.{declared.slots.Slots.TheInside.Inside, Owing.AreNoted, Room.IsSpare, State.{DriverConnection, GoneConnection}}
 use Rattle.laws_tables.specs.Ends.{AreDistinct}
 
 -- A slot and an id are given together, from the first id on; an id that is gone is none of the table's, and is there once. The flow of a
@@ -15,11 +15,6 @@ pub record AreNumbered (first port next : ℕ) (table : Table DriverConnection) 
   pub apart : All (λ g. All (λ e. e.value.id ≢ g.id) table.entries) gone
   pub distinct : AllPairs (λ g h. g.id ≢ h.id) gone
   pub ports : All (λ e. host_asks e.flow ≡ false → e.flow.guest < port) table.entries
-
--- What is noted of all, once this connection has changed or was added: where none is noted to owe a packet, none was before, and it owes none.
-pub record IsNoted (old new : Bool) (c : DriverConnection) : Type 0 where
-  pub still : new ≡ false → old ≡ false
-  pub none : new ≡ false → owes_of c.end ≡ None
 
 -- A flow that may be used again is of a connection that this side opened, and isn't in the table.
 pub record MayReuse (port : ℕ) (table : Table DriverConnection) (f : Flow) : Type 0 where
@@ -39,7 +34,7 @@ pub record KeepsClean (port : ℕ) (table : Table DriverConnection) (clean : Lis
 unfoldable pub AreClean : ℕ → Table DriverConnection → List Flow → Type 0
 AreClean port table clean = KeepsClean port table clean
 
--- There are buffers for all slots, and room for all connections. A connection owes a packet only where it was noted that one may.
+-- There are buffers for all slots, and room for all connections. A connection owes a packet only where it was noted that it may.
 pub record AreKept (s : Inside) : Type 0 where
   pub numbers : AreNumbered s.first_id s.next_port s.next_id s.table s.gone.items
   pub clean : AreClean s.next_port s.table s.clean
@@ -51,4 +46,4 @@ pub record AreKept (s : Inside) : Type 0 where
   pub buffers : length s.spare.items + (length s.table.entries + length s.gone.items) ≡ DRIVER_CONNECTIONS
   pub buffer_room : DRIVER_CONNECTIONS ≤ vec_capacity s.spare
   pub spare : All IsSpare s.spare.items
-  pub noted : s.owes ≡ false → OweNothing s.table
+  pub noted : AreNoted s.owes s.table

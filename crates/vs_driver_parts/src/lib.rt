@@ -6,6 +6,7 @@ pub mod answers;
 pub mod connection;
 pub mod gone;
 pub mod listeners;
+pub mod owing;
 pub mod pages;
 pub mod route;
 pub mod slots;

@@ -12,12 +12,12 @@ ghost use Rattle.vs_limits.specs.declared.TheConstants.{BUF_ALLOC_MAX, LAST_PORT
 ghost use Rattle.vs_driver_parts.specs.{State.{DriverEntry, DriverConnection, GoneConnection, is_known_as}, Connections.{route_to_host, after_read, after_shut, after_closing}};
 ghost use Rattle.vs_driver_parts.specs.{Connections.{OweNothing, paid_connection, without_gone, all_gone_after_read, free_flow}, Receiving.{after_packet, reset_reply}};
 ghost use Rattle.vs_driver_parts.specs.{Room.IsSpare, Held.{KnowsNone, no_slots, held_in, with_asked_in, with_answering_in, with_connection_in, left_in, kept_in, host_kept_in}};
-ghost use Rattle.vs_driver_parts.specs.SlotFields.{IsNoted};
 ghost use Rattle.laws_tables.specs.Steps.{port_after};
 
 use crate::answers::ConnId;
 use crate::connection::Connection;
 use crate::gone::Gone;
+use crate::owing::{looked_at, noted, noted_new, Owing};
 use crate::route::route_to_host;
 use arrayvec::ArrayVec;
 use std::alloc::{AllocError, Global};
@@ -47,8 +47,8 @@ pub struct Slots {
     clean: CleanPairs,
     // The buffers of the free slots.
     spare: Vec<ByteFifo>,
-    // A connection may owe a packet.
-    owes: bool,
+    // Which connections may owe a packet.
+    owes: Owing,
 }
 
 impl Model for Slots {
@@ -89,7 +89,7 @@ impl Slots {
             gone: Vec::with_capacity(alloc, DRIVER_CONNECTIONS)?,
             clean: CleanPairs::new(alloc)?,
             spare: buffers(alloc)?,
-            owes: false,
+            owes: Owing::Nobody,
         })
     }
 
@@ -208,27 +208,21 @@ impl Slots {
         Some((what, connection.owed_header(route_to_host(cid, flow), what)))
     }
 
-    /// Whether a connection may owe a packet. All are looked at where one may have owed one.
+    /// Whether a connection may owe a packet. Those that may have owed one are looked at.
     pub fn may_owe(&mut self) -> bool
         ensures same { self.new ≡ self.old }
         ensures none { result ≡ false → OweNothing self.old.table }
     {
-        self.owes = self.owes && self.one_owes();
-        self.owes
+        self.owes = looked_at(self.owes, &self.table);
+        !matches!(self.owes, Owing::Nobody)
     }
 
-    // Whether a connection owes a packet.
-    fn one_owes(&self) -> bool
-        ensures { result ≡ false → OweNothing self.now.table }
+    /// Whether the connection in a slot may owe a packet.
+    #[inline(always)]
+    pub fn may_owe_in(&self, slot: Slot) -> bool
+        ensures none { result ≡ false → IfSome (entry_under self.now.table slot) (λ e. owes_of e.value.end ≡ None) }
     {
-        let mut place = 0;
-        while let Some(entry) = self.table.at(place) {
-            if entry.value.owes().is_some() {
-                return true;
-            }
-            place += 1;
-        }
-        false
+        self.owes.may_owe_in(slot)
     }
 
     /// Whether a packet ends the connection in a slot cleanly: a marked RST, where both directions were shut.
@@ -294,7 +288,7 @@ impl Slots {
     {
         let id = self.next_id as u32;
         let connection = Connection::asked(id, self.spare.take_last());
-        self.owes = noted(self.owes, &connection);
+        self.owes = noted_new(self.owes, &connection);
         insert(&mut self.table, flow, connection);
         let next = port_after(self.next_port, flow.guest);
         self.next_port = next;
@@ -316,7 +310,7 @@ impl Slots {
     {
         let id = self.next_id as u32;
         let connection = Connection::answering(id, request, self.spare.take_last());
-        self.owes = noted(self.owes, &connection);
+        self.owes = noted_new(self.owes, &connection);
         insert(&mut self.table, flow, connection);
         self.last_id = id;
         self.next_id += 1;
@@ -406,7 +400,7 @@ impl Slots {
             return Verdict::Ignore;
         };
         let verdict = connection.on_packet(header, payload);
-        self.owes = noted(self.owes, connection);
+        self.owes = noted(self.owes, slot, connection);
         verdict
     }
 
@@ -419,7 +413,7 @@ impl Slots {
             return;
         };
         connection.paid(what);
-        self.owes = noted(self.owes, connection);
+        self.owes = noted(self.owes, slot, connection);
     }
 
     /// Counts `n` bytes as sent on the connection in a slot.
@@ -431,7 +425,7 @@ impl Slots {
             return;
         };
         connection.sent(n);
-        self.owes = noted(self.owes, connection);
+        self.owes = noted(self.owes, slot, connection);
     }
 
     /// Notes that the connection in a slot had no credit for what was to be sent.
@@ -444,7 +438,7 @@ impl Slots {
             return;
         };
         connection.want_credit();
-        self.owes = noted(self.owes, connection);
+        self.owes = noted(self.owes, slot, connection);
     }
 
     /// Moves the first unread bytes of the connection in a slot to the front of `out`, as many as it holds. The rest of `out` stays.
@@ -457,7 +451,7 @@ impl Slots {
             return 0;
         };
         let count = connection.read(out);
-        self.owes = noted(self.owes, connection);
+        self.owes = noted(self.owes, slot, connection);
         count
     }
 
@@ -471,7 +465,7 @@ impl Slots {
             return;
         };
         connection.shutdown(bits);
-        self.owes = noted(self.owes, connection);
+        self.owes = noted(self.owes, slot, connection);
     }
 
     /// Raises the buffer space of the connection in a slot to `alloc` bytes.
@@ -485,7 +479,7 @@ impl Slots {
             return;
         };
         connection.grow(alloc);
-        self.owes = noted(self.owes, connection);
+        self.owes = noted(self.owes, slot, connection);
     }
 
     /// Closes the connection in a slot: the application knows it no more.
@@ -497,15 +491,8 @@ impl Slots {
             return;
         };
         connection.close();
-        self.owes = noted(self.owes, connection);
+        self.owes = noted(self.owes, slot, connection);
     }
-}
-
-// Whether a connection may owe a packet, with one more connection or with one that has changed.
-fn noted(owes: bool, connection: &Connection) -> bool
-    ensures { IsNoted owes result connection.now }
-{
-    owes || connection.owes().is_some()
 }
 
 // The guest port that is given next, once this one was given.

@@ -32,8 +32,8 @@ loop-slot-init g c =
       few = c.as_slice-slot-items.ensures.fits;
     }
 
-pub pay_slot-requires-clause-may : goal.pay_slot-requires-clause-may
-pay_slot-requires-clause-may g c =
+pub pay_if_owed-requires-clause-may : goal.pay_if_owed-requires-clause-may
+pay_if_owed-requires-clause-may g c =
     let xs = c.as_slice-slot-items.result.now in
     let i = c.loop-slot.slot-index in
     let within : i < length xs = search rules in
@@ -48,13 +48,13 @@ loop-slot-preserved g c =
     let within : i < length xs = search rules in
     let r : Round = round_of c.loop-slot.self c.loop-slot.tally in
     let from = g.R.DriverRing.contents c.loop-slot.ring in
-    let after : Round = round_of c.pay_slot.new.self c.pay_slot.new.tally in
-    let to = g.R.DriverRing.contents c.pay_slot.new.ring in
+    let after : Round = round_of c.pay_if_owed.new.self c.pay_if_owed.new.tally in
+    let to = g.R.DriverRing.contents c.pay_if_owed.new.ring in
     record {
-      goes_on = λ x t rest. c.loop-slot.invariant.goes_on x t (each_more xs i 0 r within after x from to t c.pay_slot.ensures.calls rest);
-      may = may_each_more xs i 0 r within after from to c.loop-slot.invariant.may c.pay_slot.ensures.calls;
-      ring = c.pay_slot.ensures.ring;
-      small = omega (arith, c.loop-slot.invariant.small, c.pay_slot.ensures.count);
+      goes_on = λ x t rest. c.loop-slot.invariant.goes_on x t (each_more xs i 0 r within after x from to t c.pay_if_owed.ensures.calls rest);
+      may = may_each_more xs i 0 r within after from to c.loop-slot.invariant.may c.pay_if_owed.ensures.calls;
+      ring = c.pay_if_owed.ensures.ring;
+      small = omega (arith, c.loop-slot.invariant.small, c.pay_if_owed.ensures.count);
       few = c.loop-slot.invariant.few;
     }
 

@@ -2,7 +2,7 @@ use Rattle.std.proofs.{Common.{◌≡◌, ℕ, List, length, Some, true, false, 
 use Rattle.vs_flow.specs.{CleanPairs.kept_if, Table.{Table, entry_under, without}, Flow.host_asks, declared.flow.Flow.Flow}
 use Rattle.vs_driver_parts.specs.{Room.IsSpare, State.{DriverConnection, GoneConnection}, Connections.is_let_go, Held.HeldSlots}
 use Rattle.vs_driver_parts.{specs.contracts.slots.Slots.the_view, proofs.{Ids.{IsUnder, under}, Numbers.{numbers_without, numbers_left}, SlotChanges.{left_free, left_kept}}}
-use Rattle.vs_driver_parts.proofs.{SlotChanges.{noted_without, one_fewer}, Clean.{flow_there, left_clean}}
+use Rattle.vs_driver_parts.proofs.{Noting.noted_without, SlotChanges.one_fewer, Clean.{flow_there, left_clean}}
 use Rattle.vs_driver_parts.proofs.slots.Slots.leave.Goals as goal
 
 pub invariant_of-self-then-let_go : goal.invariant_of-self-then-let_go

@@ -1,6 +1,6 @@
 use Rattle.std.proofs.Common.{◌≡◌, ◌+◌, ◌<◌, ◌≤◌, length, ◌∷◌, [], ap, ◌∙◌, rules, arith, length-append}
 use Rattle.vs_flow.{specs.Table.{Table, with_entry, next_entry}, proofs.Tables.with_entry_sound}
-use Rattle.vs_driver_parts.{specs.{Room.IsSpare, State.DriverConnection}, proofs.{Numbers.numbers_with_entry, SlotChanges.{all_front, noted_with_entry}, Clean.clean_entry}}
+use Rattle.vs_driver_parts.{specs.{Room.IsSpare, State.DriverConnection}, proofs.{Noting.noted_with_entry, Numbers.numbers_with_entry, SlotChanges.all_front, Clean.clean_entry}}
 use Rattle.vs_driver_parts.proofs.Clean.{none_assigned}
 use Rattle.vs_limits.specs.declared.TheConstants.{LAST_ID}
 use Rattle.vs_driver_parts.proofs.slots.Slots.open_answering.Goals as goal
@@ -27,5 +27,5 @@ invariant_of-self c =
       buffers = omega (arith, kept.buffers, entries, length-append s.table.entries (next_entry s.table c.args.flow c.answering-connection.result ∷ []), c.take_last.ensures.len);
       buffer_room = omega (arith, kept.buffer_room, c.take_last.ensures.capacity);
       spare = all_front IsSpare c.take_last.new.self.items c.take_last.result s.spare.items c.take_last.ensures.items kept.spare;
-      noted = rw table (noted_with_entry s.owes c.noted-self-inside.result c.answering-connection.result c.noted-self-inside.ensures s.table c.args.flow kept.noted);
+      noted = rw table (noted_with_entry s.owes c.noted_new-self-inside.result c.answering-connection.result s.table c.args.flow (c.noted_new-self-inside.ensures s.table.given) kept.noted);
     }

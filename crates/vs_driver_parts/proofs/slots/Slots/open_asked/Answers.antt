@@ -1,6 +1,6 @@
 use Rattle.std.proofs.Common.{◌≡◌, ◌+◌, ◌<◌, ◌≤◌, length, ◌∷◌, [], ap, ◌∙◌, rules, arith, length-append, Some}
 use Rattle.vs_flow.{specs.Table.{Table, with_entry, next_entry}, proofs.Tables.with_entry_sound}
-use Rattle.vs_driver_parts.{specs.{Room.IsSpare, State.DriverConnection, Connections.free_flow}, proofs.{Numbers.numbers_with_entry, SlotChanges.{all_front, noted_with_entry}}}
+use Rattle.vs_driver_parts.{specs.{Room.IsSpare, State.DriverConnection, Connections.free_flow}, proofs.{Noting.noted_with_entry, Numbers.numbers_with_entry, SlotChanges.all_front}}
 use Rattle.vs_driver_parts.proofs.Clean.{all_clean, given_absent, given_clean, given_guest, given_within, port_below, port_rises}
 use Rattle.vs_limits.specs.declared.TheConstants.{LAST_ID}
 use Rattle.laws_tables.{specs.Ends.{without as flows_without}, proofs.Found.removed_flow}
@@ -47,7 +47,7 @@ invariant_of-self c =
       buffers = omega (arith, kept.buffers, entries, length-append s.table.entries (next_entry s.table f c.asked-connection.result ∷ []), c.take_last.ensures.len);
       buffer_room = omega (arith, kept.buffer_room, c.take_last.ensures.capacity);
       spare = all_front IsSpare c.take_last.new.self.items c.take_last.result s.spare.items c.take_last.ensures.items kept.spare;
-      noted = rw table (noted_with_entry s.owes c.noted-self-inside.result c.asked-connection.result c.noted-self-inside.ensures s.table f kept.noted);
+      noted = rw table (noted_with_entry s.owes c.noted_new-self-inside.result c.asked-connection.result s.table f (c.noted_new-self-inside.ensures s.table.given) kept.noted);
     }
 
 pub returns-clause-opened : goal.returns-clause-opened
