@@ -17,7 +17,7 @@ ghost use Rattle.laws_tables.specs.Steps.{port_after};
 use crate::answers::ConnId;
 use crate::connection::Connection;
 use crate::gone::Gone;
-use crate::owing::{looked_at, noted, noted_new, Owing};
+use crate::owing::{Owing, looked_at, noted, noted_new};
 use crate::route::route_to_host;
 use arrayvec::ArrayVec;
 use std::alloc::{AllocError, Global};
