@@ -34,7 +34,7 @@ fn run<R: AllocGlobal + Wait>(
 /// Whether the stream was given just these bytes, of which there are 64 at most.
 fn is_given(stream: &MemStream, bytes: &[u8]) -> bool {
     let read = stream.read_after_ok();
-    read.count == bytes.len() as u64 && &read.front[..bytes.len()] == bytes
+    read.count == bytes.len() as u64 && read.front.as_slice().starts_with(bytes)
 }
 
 /// Whether the client ends with that status, writes that text, and gives these bytes to its stream; where it waited, with a pause a step.
