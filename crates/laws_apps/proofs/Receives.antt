@@ -1,19 +1,13 @@
 -- A receive, made and noted.
 use Rattle.std.proofs.lemmas.Grind.{common_steps}
-use Rattle.std.proofs.Common.{◌≡◌, ℕ, ◌≤◌, arith, List, ◌++◌, length, sym, ap, ◌∙◌}
-use Rattle.std.proofs.{Common.append-nil}
+use Rattle.std.proofs.Common.{◌≡◌, ℕ, ◌≤◌, arith, List, length}
 use Rattle.vs_ring_port.specs.Contents.{RingContents}
-use Rattle.vs_driver_parts.specs.{State.{DriverState}}
+use Rattle.vs_driver_parts.specs.State.{DriverState}
 use Rattle.vs_driver_parts.specs.{Connections.{recv_of, got_count}, declared.answers.Received.Received}
-use Rattle.laws_driver.specs.Carried.Calls.{whole_call}
-use Rattle.vs_apps_parts.specs.{Journals.{called_noted, made_of}, Scripts.{RunScript, slice_of}, Told.{wait_of, told_of}, declared.journal.Called.Called}
-use Rattle.vs_apps_parts.specs.declared.{journal.{Entry.Entry}, progress.AppState.AppState, told.Told.Told}
-use Rattle.laws_apps.specs.{Calls.{CallsAs, Receives, run_with}}
-use Rattle.vs_conn.specs.declared.end.State.{State}
-use Rattle.vs_apps_parts.proofs.Entries.{stands_there}
+use Rattle.vs_apps_parts.specs.{Journals.{called_noted, made_of}, Scripts.RunScript, Told.{wait_of, told_of}, declared.journal.Called.Called}
+use Rattle.vs_apps_parts.specs.declared.{journal.Entry.Entry, progress.AppState.AppState, told.Told.Told}
+use Rattle.laws_apps.specs.Calls.{CallsAs, Receives, run_with}
 use Rattle.laws_driver.specs.Carried.Calls as call
-use Rattle.vs_conn.specs.declared.end.State.TheVariants as state
-use Rattle.vs_driver_parts.specs.declared.answers.Received.TheVariants as recv
 use Rattle.vs_apps_parts.specs.declared.journal.Called.TheVariants as called
 
 -- A receive gives no more bytes than its buffer holds.

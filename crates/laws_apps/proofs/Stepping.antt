@@ -1,7 +1,7 @@
 -- The calls of a step together, and what the step comes to.
 use Rattle.std.proofs.lemmas.Grind.{common_steps}
 use Rattle.std.proofs.Common.{◌≡◌, ◌<◌, ◌≤◌, ℕ, zero, suc, Bool, true, false, cond, List, [], ◌∷◌, ◌++◌, length, get_or, map, Option, Some, None, refl, sym, ap, subst, ◌∙◌, arith}
-use Rattle.std.{proofs.lemmas.Option.{slice_get-map, slice_get_past, slice_get_read}, specs.{List.All, Option.{option_map}, Prelude.slice_get}}
+use Rattle.std.{proofs.lemmas.Option.{slice_get-map, slice_get_past, slice_get_read}, specs.{List.All, Option.option_map, Prelude.slice_get}}
 use Rattle.vs_script.specs.{App.{Act, instruction_view}, declared.app.{App.App, Instruction.Instruction}}
 use Rattle.vs_ring_port.specs.Contents.{RingContents}
 use Rattle.vs_driver_parts.specs.{Conversations.poll_of, Playing.Plays, State.DriverState, declared.answers.Polled.Polled}
@@ -11,7 +11,6 @@ use Rattle.vs_apps_parts.specs.{Scripts.{id_of, recv_next, script_of, slice_left
 use Rattle.vs_apps_parts.specs.declared.{progress.{AppState.AppState, Progress.Progress, Stepped.Stepped}, told.Told.Told}
 use Rattle.laws_apps.specs.{Runs.{Acts, MakesCalls, Moves, Run, Steps, Waits, app_at, poll_moved, with_app}, Calls.{CallsAs, MakesAll, run_with}}
 use Rattle.laws_driver.specs.Carried.Calls as call
-use Rattle.vs_apps_parts.specs.declared.progress.Stepped.TheVariants as stepped
 
 module _ (script : RunScript) (k : ℕ) where
   pub one_made : (c : GuestCall) (told : Told) (old new : Run) → CallsAs script k c told old new → MakesAll script k (c ∷ []) (told ∷ []) old new

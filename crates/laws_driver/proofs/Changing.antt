@@ -8,9 +8,9 @@ use Rattle.vs_page.specs.Log.{Driver, Log, side_of}
 use Rattle.laws_tables.specs.{Both.{Aborts, Decides, Decision, Forwards, Grows, MayDecide, Shuts, WantsCredit, decided}, Ends.Ends, Heard.heard_of, Matches.Matches, Steps.with_end}
 use Rattle.laws_tables.proofs.{Going.{Goes, goes_then, one_step, stays}, Keeps.changes, Slots.found_by, Tables.driver_begun}
 use Rattle.vs_driver_parts.specs.{State.{DriverConnection, DriverEntry, DriverState, entry_known_as, is_known_as}, Connections.after_close}
-use Rattle.vs_driver_parts.specs.Connections.{after_closing, after_grow, after_read, after_recv, after_shut, after_shutdown, entry_grow_answer, grown_by, after_unlisten}
-use Rattle.vs_driver_parts.specs.Connections.{all_closed, all_gone_after_read, entry_closed, entry_read, gone_closed, shut_in, waiting_on, with_connection, without_gone}
-use Rattle.vs_driver_parts.{specs.{Listening.{after_accept, listening, next_accepted, with_waiting, without_id}}, proofs.Growing.{MayGrow, may_grow}}
+use Rattle.vs_driver_parts.specs.Connections.{after_closing, after_grow, after_read, after_recv, after_shut, after_shutdown, after_unlisten}
+use Rattle.vs_driver_parts.specs.Connections.{all_closed, entry_closed, waiting_on, with_connection}
+use Rattle.vs_driver_parts.{specs.Listening.{after_accept, listening, next_accepted, with_waiting, without_id}, proofs.Growing.{MayGrow, may_grow}}
 use Rattle.vs_driver_parts.proofs.Ids.{found_under}
 use Rattle.laws_driver.proofs.Calling.{close_to, grow_to, recv_to, shutdown_to}
 use Rattle.laws_driver.{specs.Honest.{IsFitState, ends_of_state}, proofs.{Going.{at_log, seat}, Tabling.{Stands, connection_ends}}}

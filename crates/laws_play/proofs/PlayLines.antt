@@ -1,13 +1,13 @@
 -- The lines of a script as lines of the world.
 use Rattle.std.proofs.lemmas.Grind.{common_steps}
 use Rattle.std.proofs.Common.{◌≡◌, ◌≤◌, ℕ, List, [], ◌∷◌, ◌++◌, refl, sym, ap, subst, ◌∙◌, arith, append_assoc}
-use Rattle.vs_flow.specs.{Connection.Connection}
+use Rattle.vs_flow.specs.Connection.{Connection}
 use Rattle.vs_script.specs.{Data.bytes_of, Outside.{Host, Outside}, Play.Event, Bounds.{AreBounded, IsBounded}}
-use Rattle.laws_world.specs.{Plays.{AreRight, Line, after, is_given_right}, World.World}
-use Rattle.laws_driver.{specs.Carried.{Calls.{Journal, received_by as journaled}, Senders.{AreSenders, sent_to}}}
+use Rattle.laws_world.specs.{Plays.{AreRight, Line, after}, World.World}
+use Rattle.laws_driver.specs.Carried.{Calls.{Journal, received_by as journaled}, Senders.{AreSenders, sent_to}}
 use Rattle.vs_play.specs.{Answer.world_after, Lines.{PlayWorld, event_played, host_line}}
 use Rattle.laws_play.specs.Said.{received_by, received_in, sent_by, sent_in}
-use Rattle.laws_tables.{proofs.Logs.nothing_more}
+use Rattle.laws_tables.proofs.Logs.{nothing_more}
 use Rattle.vs_script.specs.Outside as outside
 use Rattle.vs_script.specs.Play as script
 use Rattle.laws_driver.specs.Carried.Calls as call

@@ -5,7 +5,7 @@ use Rattle.vs_outside.specs.Host.{HostContents}
 use Rattle.vs_ring_port.specs.{Contents.RingContents, declared.device_ring.Chain.Chain}
 use Rattle.vs_device_parts.specs.{Calls.Situation, Growing.{after_grow, grown_by}, Playing.IsItsRing, State.{DeviceEntry, DeviceState, counters_of}}
 use Rattle.vs_proxy_parts.specs.{Growing.{after_flow_grow, after_label_grow, flow_grow_of}, Handshakes.streams_of, State.{ProxyState, with_device}}
-use Rattle.laws_device.{specs.Named.Streams.HasStreams, proofs.{Growing.{grow_keeps, grow_streamed, grow_streams, grow_with, grown_same}, Seats.Carried}}
+use Rattle.laws_device.{specs.Named.Streams.HasStreams, proofs.{Growing.{grow_keeps, grow_streamed, grow_streams, grow_with}, Seats.Carried}}
 use Rattle.laws_proxy.specs.{Account.{Counts.counts_shown, Made.Made, Tied.AccountsFor, Told.AreAccounted}, Honest.{IsProxyStreamedSince, IsProxyWith}, Order.IsInOrder}
 use Rattle.laws_proxy.proofs.{Account.Growing.{grow_accounted, grow_agrees}, Turning.Proxied}
 use Rattle.laws_device.proofs.Growing as one

@@ -1,9 +1,9 @@
 -- What of a connection's payload its host's program has still to read, where the device holds many bytes of it.
 use Rattle.std.proofs.lemmas.Grind.{common_steps}
-use Rattle.std.proofs.Common.{◌≡◌, ◌⊎◌, inl, inr, ℕ, ◌+◌, ◌-◌, ◌≤◌, ◌<◌, ◌%◌, ◌^◌, ◌==◌, ◌||◌, not, Bool, true, false, cond, List, [], ◌∷◌, ◌++◌, length, Contains, Ok}
-use Rattle.std.proofs.{Common.{Option, codes, decimal, refl, sym, ap, subst, ◌∙◌, arith, length-append}, lemmas.{List.Elements.All-contains}}
+use Rattle.std.proofs.Common.{◌≡◌, ◌⊎◌, inl, inr, ℕ, ◌+◌, ◌-◌, ◌≤◌, ◌<◌, ◌%◌, ◌^◌, not, Bool, true, false, cond, List, [], ◌∷◌, ◌++◌, length, Contains, Ok}
+use Rattle.std.proofs.{Common.{Option, codes, decimal, refl, sym, ap, subst, ◌∙◌, arith, length-append}, lemmas.List.Elements.All-contains}
 use Rattle.vs_credit.specs.Credit.{free_of, unread_of}
-use Rattle.vs_conn.specs.{End.{ConnectionEnd, may_send_of}, Follows.{Follows, IsLeftBy}, Shut.is_both, declared.end.State.{State, TheVariants.{Live}}}
+use Rattle.vs_conn.specs.{End.{ConnectionEnd, may_send_of}, Follows.{Follows, IsLeftBy}, Shut.is_both, declared.end.State.{State, TheVariants.Live}}
 use Rattle.vs_flow.specs.{Connection.Connection, Flow.host_asks, Table.Table, declared.flow.Flow.Flow}
 use Rattle.vs_outside.specs.{Host.HostContents, HostBytes.{after_line, has_line, host_read}}
 use Rattle.vs_uds.specs.OkLine.{ok_text}

@@ -1,5 +1,5 @@
 -- What the device's conversations come to: steps of the two ends, where the device got just what the driver put first, and headers that fit.
-use Rattle.std.proofs.Common.{true, false, ℕ, refl, subst}
+use Rattle.std.proofs.Common.{true, ℕ, refl, subst}
 use Rattle.vs_page.specs.{Log.{Device, HasGotAll, flow_got}, declared.log.LogEntry.TheVariants.GotPacket}
 use Rattle.laws_tables.{specs.Both.{Both, IsSound, Seat}, proofs.{Fair.got_formed, Voices.{AreVoiced, voices_run}}}
 use Rattle.laws_device.specs.Carried.Streamed.{changing}

@@ -1,7 +1,6 @@
 -- The packets that the tests pass may be put.
-use Rattle.std.proofs.Common.{◌≡◌, ℕ, [], ◌∷◌, inl, refl, sym, arith}
-use Rattle.vs_header.specs.{Op.op_number, declared.Op.TheVariants.{Request, Rst}}
-use Rattle.vs_limits.specs.declared.TheConstants.{BUF_ALLOC}
+use Rattle.std.proofs.Common.{ℕ, ◌∷◌, refl, sym, arith}
+use Rattle.vs_header.specs.{Op.op_number, declared.Op.TheVariants.Rst}
 use Rattle.vs_page.{specs.{Fair.IsFairLog, Log.{Driver, Log}, declared.log.LogEntry.TheVariants.PutPacket}, proofs.Entries.one_put}
 use Rattle.tests_rings.specs.Senders.{Asked, bare, numbered}
 

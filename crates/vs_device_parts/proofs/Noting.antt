@@ -6,7 +6,7 @@ use Rattle.std.proofs.Math.Seq.{take-append_seam, take-length}
 use Rattle.std.specs.{List.{All, find, refill, position, slice_get, Sorted.{IsBinarySearchResult, IsSearchInRange}}, Option.{option_and_then, option_map, option_map_or}, Ordering.nat_cmp, Result.result_ok}
 use Rattle.vs_conn.specs.{End.owes_of, declared.end.Owed.Owed}
 use Rattle.vs_credit.specs.Credit.{free_of}
-use Rattle.vs_flow.specs.Table.{Table, IsTable, entry_under, value_under, with_value, revalued}
+use Rattle.vs_flow.specs.Table.{Table, IsTable, entry_under, value_under}
 use Rattle.vs_flow.proofs.Entries.{find_position, found_at, found_passes, none_found, position_within}
 use Rattle.vs_device_parts.specs.{Noted.{AreRising, note_of, notes_of, renoted, service_of}, Receiving.may_read, Served.IsServedSo, Watched.has_to_write}
 use Rattle.vs_device_parts.specs.{State.{DeviceConnection, DeviceEntry}, declared.{notes.Note.Note, service.Service.Service}}

@@ -6,7 +6,7 @@ use Rattle.std.specs.List.{AllPairs, AllWithin, filter, remove, slice_get}
 use Rattle.vs_flow.specs.Table.{Table, IsTable, entry_of, entry_under, value_under, has_place, next_entry, slots, with_entry, with_value, without, revalued}
 use Rattle.vs_flow.{specs.declared.flow.Flow.Flow, proofs.{Entries.{all_others, found_at, remove_at}, Lookups.find_place, Tables.{IsAccepted, revalued-slot, with_value_sound}}}
 use Rattle.vs_device_parts.specs.{State.{DeviceConnection, DeviceEntry}, SlotFields.AreKept, declared.{slots.Slots.TheInside.Inside, notes.Note.Note, watch.Watch.Watch, service.Service.Service}}
-use Rattle.vs_device_parts.{specs.{Connections.is_timed_out, Noted.{note_of, renoted}, Watched.{AreWatched, IsWatched, has_to_write}, Served.IsServedSo}, proofs.Under.{none_under, under, value_of}}
+use Rattle.vs_device_parts.{specs.{Noted.{note_of, renoted}, Watched.{AreWatched, IsWatched}, Served.IsServedSo}, proofs.Under.{none_under, under, value_of}}
 
 -- what is known after one more thing was noted
 module _ (w new : Watch) (still : (c : DeviceConnection) → IsWatched w c → IsWatched new c) (t : Table DeviceConnection) (all : AreWatched w t) where

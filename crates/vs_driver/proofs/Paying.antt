@@ -1,6 +1,6 @@
 -- What putting replies and what connections owe comes to.
 use Rattle.std.proofs.Common.{◌≡◌, ◌==◌, ℕ, Bool, true, false, List, [], ◌∷◌, length, drop, Option, Some, None, ◌+◌, ◌<◌, ◌≤◌, get_or, drop-cons, add-one, refl, sym, ap, subst}
-use Rattle.std.{proofs.{Common.◌∙◌, Math.ListN.drop_of_length-le}, specs.{List.slice_get, Prelude.IfSome, Option.IsSomeAnd}}
+use Rattle.std.{proofs.{Common.◌∙◌, Math.ListN.drop_of_length-le}, specs.{List.slice_get, Option.IsSomeAnd}}
 use Rattle.vs_contents.{specs.CallTree.{Done, bind, for_each}, proofs.{Leads.{leads_of, leads_bind}, Conditions.{may_first, may_rest, may_of}}}
 use Rattle.vs_header.specs.{Packet.header_bytes, declared.Header.Header}
 use Rattle.vs_conn.specs.{End.owes_of, Headers.owed_header, declared.end.Owed.Owed}
@@ -98,18 +98,11 @@ module _ (xs : List ℕ) (i d : ℕ) (x : Round) (lt : i < length xs) where
 pub each_end : (xs : List ℕ) (i : ℕ) (x : Round) (r : RingContents) → length xs ≤ i → Plays (for_each pay_slot (drop i xs) x) r x r
 each_end xs i x r ends = let same : for_each pay_slot (drop i xs) x ≡ Done x = rw (drop_of_length-le xs ends) refl in leads_of RingAllows _ _ r r x same (refl, refl)
 
--- a connection owes no packet, or none does
+-- no connection owes a packet
 pays_not : (slot : ℕ) (r : Round) (o : Option DriverEntry) → entry_under r.state.table slot ≡ o → ((e : DriverEntry) → o ≡ Some e → owes_of e.value.end ≡ None)
     → pay_slot slot r ≡ Done r
 pays_not slot r None is none = rw (is, put_owed) refl
 pays_not slot r (Some e) is none = rw (is, none e refl, put_owed) refl
-
-pub pays_nothing : (slot : ℕ) (r : Round) (c : RingContents) → IfSome (entry_under r.state.table slot) (λ e. owes_of e.value.end ≡ None)
-    → Plays (pay_slot slot r) c r c
-pays_nothing slot r c none =
-    let P : Option DriverEntry → Type 0 = λ o. IfSome o (λ e. owes_of e.value.end ≡ None) in
-    let same = pays_not slot r (entry_under r.state.table slot) refl (λ e is. subst P is none) in
-    leads_of RingAllows _ _ c c r same (refl, refl)
 
 pub pays_none : (r : Round) → OweNothing r.state.table → (xs : List ℕ) → for_each pay_slot xs r ≡ Done r
 pays_none r none [] = refl

@@ -1,6 +1,6 @@
 -- What it takes that a buffer space is raised, and what the connection owes then.
 use Rattle.std.proofs.{Common.{◌≡◌, ℕ, ◌≤◌, ◌&&◌, not, nat_lt, true, Some, refl, ap, ◌∙◌, arith}, lemmas.{Bool.Decides.nat_tests, Grind.common_steps}}
-use Rattle.vs_conn.specs.{End.{ConnectionEnd, grown, live_owes, owes_of, state_owes}, Shut.is_both, declared.end.{Owed.Owed, State.State}}
+use Rattle.vs_conn.specs.{End.{ConnectionEnd, grown, live_owes, owes_of, state_owes}, Shut.is_both, declared.end.State.State}
 use Rattle.vs_limits.specs.declared.TheConstants.{BUF_ALLOC_MAX}
 use Rattle.vs_driver_parts.specs.Connections.{grow_answer, live_grow_answer}
 use Rattle.vs_conn.specs.declared.end.Owed.TheVariants as owed

@@ -1,10 +1,9 @@
 -- What always holds of the slots after a change of the table.
-use Rattle.std.proofs.lemmas.{Option.{slice_get_within, get_or_from_slice_get}, Bool.Decides.nat_tests, List.{Edits.length-remove, Elements.{All-filter, All-map, All-push}}}
+use Rattle.std.proofs.lemmas.{Option.{slice_get_within, get_or_from_slice_get}, Bool.Decides.nat_tests, List.Edits.length-remove}
 use Rattle.std.proofs.{lemmas.List.{length-map, get_or_append_left}, Math.Seq.get_or-append_seam, Common.{◌≡◌, ◌≢◌, ℕ, ◌+◌, ◌<◌, ◌==◌, Bool, true, false, cond, List, [], ◌∷◌}}
-use Rattle.std.{proofs.Common.{◌++◌, length, get_or, Some, None, sym, ap, subst, ◌∙◌, arith, length-append, not}, specs.{List.{All, AllPairs, find}, Option.option_and_then}}
+use Rattle.std.{proofs.Common.{◌++◌, length, get_or, Some, None, sym, ap, subst, ◌∙◌, arith, length-append}, specs.{List.{All, AllPairs, find}, Option.option_and_then}}
 use Rattle.std.specs.Option.{option_map}
-use Rattle.vs_conn.specs.End.{owes_of}
-use Rattle.vs_flow.specs.{declared.flow.Flow.Flow, Table.{Table, IsTable, entry_under, value_under, with_value, without, next_entry, revalued, with_entry}}
+use Rattle.vs_flow.specs.{declared.flow.Flow.Flow, Table.{Table, IsTable, entry_under, value_under, with_value, without, revalued}}
 use Rattle.vs_flow.proofs.{Lookups.{find_place, entry_under-with_value}, Tables.with_value_sound, Entries.{find_none, found_passes}}
 use Rattle.vs_driver_parts.specs.{Connections.{gone_as, is_let_go}, Held.{HeldSlots, left_in}, Owing.IsNoted, SlotFields.AreKept, declared.{owing.Owing.Owing, slots.Slots.TheInside.Inside}}
 use Rattle.vs_driver_parts.{specs.State.{DriverConnection, DriverEntry, GoneConnection, is_known_as}, proofs.{Lists.{one_passes, removed_one}, Numbers.{id_in, id_there, id_under}}}

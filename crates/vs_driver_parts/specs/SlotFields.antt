@@ -1,6 +1,5 @@
 -- What always holds of the fields of the driver's slots. No public clause cites this module.
-use Rattle.std.specs.{Prelude.{◌≡◌, ◌≢◌, ℕ, Bool, false, None, ◌+◌, ◌<◌, ◌≤◌, AllPairs, List, length, vec_capacity, [], ◌∷◌}, List.All}
-use Rattle.vs_conn.specs.End.{owes_of}
+use Rattle.std.specs.{Prelude.{◌≡◌, ◌≢◌, ℕ, false, None, ◌+◌, ◌<◌, ◌≤◌, AllPairs, List, length, vec_capacity, [], ◌∷◌}, List.All}
 use Rattle.vs_flow.specs.{Flow.host_asks, Table.{Table, IsTable, entry_of}, declared.flow.Flow.Flow}
 use Rattle.vs_limits.specs.declared.TheConstants.{DRIVER_CONNECTIONS, LAST_ID, LAST_PORT}
 use Rattle.vs_driver_parts.specs.{declared.slots.Slots.TheInside.Inside, Owing.AreNoted, Room.IsSpare, State.{DriverConnection, GoneConnection}}

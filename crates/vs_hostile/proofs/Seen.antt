@@ -1,15 +1,15 @@
 -- A ring that is seen as a whole: its calls are those of the ring's port, and two that expose the same are the same.
 use Rattle.std.proofs.lemmas.Grind.{common_steps}
-use Rattle.std.proofs.{Common.{◌≡◌, ℕ, zero, suc, Bool, true, false, cond, nat_le, List, [], ◌∷◌, None, unwrap_or, refl, sym, ap, ap₂, ◌∙◌, arith}, lemmas.Bool.false≢true}
+use Rattle.std.proofs.{Common.{◌≡◌, ℕ, zero, suc, Bool, true, false, nat_le, List, [], ◌∷◌, None, unwrap_or, refl, sym, ap, ap₂, ◌∙◌, arith}, lemmas.Bool.false≢true}
 use Rattle.std.{proofs.lemmas.Bool.Decides.nat_tests, specs.Prelude.{◌+◌, ◌≤◌}}
 use Rattle.vs_guest_mem.specs.Memory.{Change}
 use Rattle.vs_layout.specs.declared.place.Areas.{Areas}
-use Rattle.vs_ring_port.specs.{Contents.{RingContents, DeviceCall, DeviceAnswer, PlainState, plain_after, Take, Read, Write, Return, Given, PublishCid}, DeviceCalls.CanReturn}
+use Rattle.vs_ring_port.specs.{Contents.{RingContents, DeviceCall, DeviceAnswer, PlainState, Take, Read, Write, Return, Given, PublishCid}, DeviceCalls.CanReturn}
 use Rattle.vs_ring_port.specs.{DeviceCalls.{DeviceAllows, DeviceMoves}, declared.{queue.Queue.{TheVariants.{Rx, Tx, Event}, Queue}, device_ring.{Chain.Chain, Next.Next}}}
 use Rattle.vs_ring_port.specs.{Chains.without, EndLog.EndLog, Lists.Rings}
 use Rattle.vs_ring_plain.{specs.{Device.{DeviceState, HeldChain, answer_to, chains_held}, declared.{piece.Piece.Piece, turns.Turns.Turns}}, proofs.Calls.{Keeps, Takes, counts_by}}
 use Rattle.vs_ring_plain.proofs.Calls.{reads_by, returns_by, takes_by, writes_by}
-use Rattle.vs_hostile.specs.Whole.{change_numbers, hold_numbers, is_made, number_of_bool, number_of_queue, numbers, numbers_at, part, piece_numbers, shown_by, whole_contents}
+use Rattle.vs_hostile.specs.Whole.{change_numbers, hold_numbers, is_made, number_of_bool, number_of_queue, numbers, numbers_at, part, piece_numbers, whole_contents}
 use Rattle.vs_hostile.specs.Whole.{whole_state}
 
 moves : (call : DeviceCall) (answer : DeviceAnswer call) (P : Rings → Type 0) (f : Rings → Rings) (Q : EndLog → Type 0)

@@ -1,6 +1,6 @@
 -- A client's stream, from its dial on.
-use Rattle.std.proofs.Common.{◌≡◌, ◌≢◌, ℕ, zero, suc, Bool, true, false, cond, ◌||◌, List, [], ◌∷◌, ◌++◌, length, Option, Some, None, refl, sym, ap, subst, ◌∙◌}
-use Rattle.std.specs.{Prelude.{slice_get, IsSomeAnd}, Option.ForSome}
+use Rattle.std.proofs.Common.{◌≡◌, ℕ, Bool, true, false, cond, ◌||◌, List, ◌++◌, Option, Some, None, refl, sym, ap, subst, ◌∙◌}
+use Rattle.std.specs.{Prelude.IsSomeAnd, Option.ForSome}
 use Rattle.vs_contents.specs.Contents.{Relates}
 use Rattle.vs_flow.specs.declared.flow.Flow.{Flow}
 use Rattle.vs_outside.{specs.Host.{Stream, HostContents, stream_at, after_dial}, proofs.Frames.stream_at-after_failed}

@@ -1,17 +1,17 @@
 -- From a round that moved nothing to ends at rest.
 use Rattle.std.proofs.Common.{◌≡◌, ◌≤◌, ◌<◌, ◌+◌, ◌-◌, ◌||◌, ◌⊎◌, inl, inr, ℕ, nat_lt, Bool, true, false, List, [], ◌∷◌, length, Option, Some, None, Result, Ok, Err, IfOk, refl}
-use Rattle.std.{proofs.{Common.{sym, ap, subst, ◌∙◌, arith}, lemmas.{Bool.Decides.nat_tests, Grind.common_steps, Option.same_Some}}}
+use Rattle.std.proofs.{Common.{sym, ap, subst, ◌∙◌, arith}, lemmas.{Bool.Decides.nat_tests, Grind.common_steps, Option.same_Some}}
 use Rattle.vs_flow.specs.Table.{IsTable}
 use Rattle.vs_limits.specs.declared.TheConstants.{FIRST_CID}
 use Rattle.vs_outside.specs.Host.{HostContents}
 use Rattle.vs_page.specs.Log.{events_put}
-use Rattle.vs_ring_port.specs.{Chains.{Held, chains_of, held_of}, Contents.{Given, RingContents}, Counts.Counts, EndLog.EndLog, DeviceCalls.{DeviceAllows}}
+use Rattle.vs_ring_port.specs.{Chains.{Held, chains_of, held_of}, Contents.{Given, RingContents}, Counts.Counts, EndLog.EndLog, DeviceCalls.DeviceAllows}
 use Rattle.vs_ring_port.specs.{Known.Known, declared.queue.Queue.{Queue, TheVariants.{Event, Rx, Tx}}}
 use Rattle.vs_ring_rule.specs.{Rule.IsFront, declared.view.Past.Past}
 use Rattle.vs_ring_shared.specs.{Meetings.{AreOneTable, SawNoMore, TookFirst, after_hearing, what_it_did}, Sights.{DeviceSight, QueueSight, Sight, device_contents, device_log}}
 use Rattle.vs_ring_shared.specs.Sights.{driver_contents, driver_log, flight_of, known_of, sight_in, staged_of}
 use Rattle.vs_driver_parts.specs.{Playing.IsRingOf, State.DriverState, declared.answers.Polled.Polled}
-use Rattle.vs_device_parts.specs.{Calls.Situation, Playing.{IsItsRing, Runs, held_by, situation}, State.DeviceState}
+use Rattle.vs_device_parts.specs.{Playing.{IsItsRing, Runs, held_by, situation}, State.DeviceState}
 use Rattle.laws_driver.specs.Honest.{AgreesWith, ends_of_state as driver_ends}
 use Rattle.laws_device.specs.Honest.{AgreesWith as DeviceAgreesWith, ends_of_state}
 use Rattle.laws_rest.{specs.{Calm.resets_in, Rest.{OwesNothing, has_no_mark}}, proofs.Polls.poll_owes_none}

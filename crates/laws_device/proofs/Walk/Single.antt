@@ -13,7 +13,7 @@ use Rattle.vs_device_parts.specs.{Receiving.{Filling, hold, may_read, put_owed, 
 use Rattle.vs_device_parts.specs.{Steps.{puts_reply, reads, returns, shuts_write, takes_chain, with_chain, writes, writes_on, writing}, Transmitting.on_packet, Turns.after_reset}
 use Rattle.vs_device_parts.specs.Turns.{close_slot, reset_of}
 use Rattle.vs_proxy_parts.specs.{Handshakes.{accept_one, read_byte, streams_of, tick_handshake}, State.{ProxyState, Turning}, Turns.{close_handshake, proxy_reset_of, reset_with}}
-use Rattle.laws_device.proofs.Walk.{Fields.{AfterTx, Calls, D, Fields, TxCalls, U, fields, taken}, Keeping.{Asking, Keeps, keeps_each, keeps_if, keeps_some, keeps_then}}
+use Rattle.laws_device.proofs.Walk.{Fields.{AfterTx, Calls, D, Fields, TxCalls, U, fields}, Keeping.{Asking, Keeps, keeps_each, keeps_if, keeps_some, keeps_then}}
 use Rattle.laws_device.proofs.Walk.Serving.{by_slot, keeps_hold, keeps_put_owed, keeps_put_reply_of, keeps_read_with_chain, keeps_shut_write, keeps_tick_slot, keeps_write_pending}
 use Rattle.laws_device.proofs.Walk.{Taking.keeps_on_packet, Turning.{Between, keeps_accept_one, keeps_read_byte, keeps_tick_handshake}}
 use Rattle.laws_device.proofs.Walk.Fields as walk

@@ -1,4 +1,3 @@
-use Rattle.std.proofs.Common.{sym}
 use Rattle.vs_device_parts.proofs.Noting.{none_put, put_there}
 use Rattle.vs_device_parts.proofs.notes.put_in.Goals as goal
 

@@ -1,6 +1,6 @@
-use Rattle.std.proofs.{Common.{◌≡◌, ◌≤◌, Some, None, length, get_or, sym, subst, rules, arith, take}, lemmas.{Grind.common_steps, List.{Elements.All-more, take_all}, Option.slice_get_cases}}
+use Rattle.std.proofs.{Common.{◌≡◌, ◌≤◌, Some, None, length, get_or, sym, subst, arith, take}, lemmas.{Grind.common_steps, List.{Elements.All-more, take_all}, Option.slice_get_cases}}
 use Rattle.std.{proofs.lemmas.Option.{slice_get_within, get_or_from_slice_get}, specs.List.{All, slice_get}}
-use Rattle.vs_driver_parts.specs.{Owing.{OwesAsNoted}, State.DriverEntry}
+use Rattle.vs_driver_parts.specs.{Owing.OwesAsNoted, State.DriverEntry}
 use Rattle.vs_driver_parts.proofs.owing.looked_at_all.Goals as goal
 
 pub loop-entry-smaller : goal.loop-entry-smaller

@@ -1,4 +1,4 @@
-use Rattle.std.proofs.Common.{◌≡◌, ℕ, Some, None, false, sym, ap, subst, ◌∙◌}
+use Rattle.std.proofs.Common.{◌≡◌, Some, None, subst, ◌∙◌}
 use Rattle.vs_conn.specs.End.{owes_of}
 use Rattle.vs_driver_parts.{specs.State.DriverConnection, proofs.Noting.noted_where_seen}
 use Rattle.vs_driver_parts.specs.declared.owing.Owing.TheVariants.{Nobody}

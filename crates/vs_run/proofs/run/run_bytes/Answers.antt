@@ -1,6 +1,5 @@
-use Rattle.std.proofs.Common.{inl, inr, Ok, Err, refl, Result}
-use Rattle.vs_peer.specs.{Ends.EndsAs, Text.no_memory_text}
-use Rattle.vs_script.specs.{Script.{Attacks, Plays, Runs, Saying, parse_of}, declared.fault.Refused.Refused}
+use Rattle.std.proofs.Common.{refl}
+use Rattle.vs_script.specs.Script.{parse_of}
 use Rattle.vs_run.{specs.Runs.EndsRun, proofs.{Causes.unparsed, Ran.run_starved}}
 use Rattle.vs_script.specs.declared.script.Command.TheVariants as command
 use Rattle.vs_run.proofs.run.run_bytes.Goals as goal
