@@ -1,36 +1,13 @@
--- A stream that echoes, after bytes of it were taken; and the ids of streams.
-use Rattle.std.proofs.Common.{◌≡◌, ◌≤◌, ℕ, zero, suc, ◌+◌, ◌-◌, if◌then◌else◌, Bool, true, false, List, [], ◌∷◌, ◌++◌, length, take, drop, set, ltb, None, Some, refl, sym, ap, ◌∙◌}
-use Rattle.std.{proofs.{Common.arith, lemmas.{Bool.Decides.nat_tests, List.{length-drop, length-set, Elements.{All-append, All-cons, All-nil}}}}, specs.List.{All, position_or_len}}
+-- The ids of streams that echo, and calls that no stream changes.
+use Rattle.std.proofs.Common.{◌≡◌, ℕ, zero, suc, ◌+◌, false, List, [], ◌∷◌, ◌++◌, length, set, ltb, None, Some, refl, sym, ap, ◌∙◌}
+use Rattle.std.{proofs.{Common.arith, lemmas.{Bool.Decides.nat_tests, List.{length-set, Elements.{All-append, All-cons, All-nil}}}}, specs.List.{All, position_or_len}}
 use Rattle.std.specs.List.{range_with_len}
 use Rattle.vs_flow.specs.declared.flow.Flow.{Flow}
-use Rattle.vs_outside.{proofs.Bytes.{drop_more, take_more}, specs.{Faults.counted_down, Host.{accept_answer, after_start, called, start_answer, HostContents, Stream}}}
-use Rattle.vs_outside.specs.{Host.{dialed_stream, is_waiting, oldest_client, take_bytes}, declared.host_net.{Started.TheVariants.Ready, StreamState.TheVariants.{Closed, Open}}}
+use Rattle.vs_outside.specs.{Faults.counted_down, Host.{accept_answer, after_start, called, start_answer, HostContents, Stream}}
+use Rattle.vs_outside.specs.{Host.{dialed_stream, is_waiting, oldest_client}, declared.host_net.Started.TheVariants.Ready}
 use Rattle.vs_outside.specs.HostProgram.{adds_dialed}
-use Rattle.vs_echo.specs.{Echo.IsEcho, declared.echo_stream.TheConstants.ECHO_ROOM}
+use Rattle.vs_echo.specs.Echo.{IsEcho}
 use Rattle.vs_outside.specs.declared.host_net.Accepted.TheVariants as accepted
-
--- the stream that was given these bytes, of which the first were taken again
-abbrev pub echo_at : Flow → Bool → Bool → List ℕ → ℕ → Stream
-echo_at label closed shut given at = record {
-  label = Some label;
-  by_client = false;
-  state = if closed then Closed else Open;
-  taken = take at given;
-  untaken = drop at given;
-  ended = false;
-  given = given;
-  room = Some (ECHO_ROOM - length (drop at given));
-  echoes = true;
-  host_closed = false;
-  write_shut = shut;
-}
-
-pub after_takes : (label : Flow) (closed shut : Bool) (given : List ℕ) (at n : ℕ) → n ≤ length (drop at given)
-    → length given ≤ at + ECHO_ROOM → echo_at label closed shut given (at + n) ≡ take_bytes n (echo_at label closed shut given at)
-after_takes label closed shut given at n some few =
-    let room : ECHO_ROOM - length (drop (at + n) given) ≡ ECHO_ROOM - length (drop at given) + n =
-    omega (arith, length-drop at given, length-drop (at + n) given, some, few) in
-    rw (take_more at n given, room, drop_more at n given) refl
 
 -- one stream more
 pub all_more : (xs ys : List Stream) (s : Stream) → All IsEcho xs → IsEcho s → ys ≡ xs ++ s ∷ [] → All IsEcho ys

@@ -14,7 +14,7 @@ use vs_flow::Flow;
 use vs_outside::{Accepted, Dialed, HostNet, Started, StreamRead, StreamWrite};
 
 /// A host in memory that listens on one port, and gives back what its streams are given. They have the ids 1, 2, 3 and so on. It fails where a
-/// dial or a write finds no memory.
+/// dial finds no memory.
 #[derive(Drop)]
 pub struct EchoHost {
     base: String,
@@ -103,7 +103,7 @@ impl EchoHost {
         Some(id as usize - 1)
     }
 
-    /// Whether a dial or a write found no memory, and failed.
+    /// Whether a dial found no memory, and failed.
     pub fn starved(&self) -> bool
         ensures { result ≡ self.now.contents.starved }
     {
@@ -147,7 +147,7 @@ impl EchoHost {
         ensures ok { IfOk result (λ id. self.new ≡ record self.old { contents = adds_dialed flow id self.old.contents }) }
         ensures err { OnErr result (self.new ≡ self.old) }
     {
-        let stream = EchoStream::dialed(*self.streams.allocator(), flow);
+        let stream = EchoStream::dialed(*self.streams.allocator(), flow)?;
         self.streams.push(stream)?;
         Ok(self.streams.len() as u64)
     }
@@ -207,14 +207,7 @@ impl HostNet for EchoHost {
         ensures exact { IsWritten id (length bytes.now) result self.old.contents }
         ensures after { self.new.contents ≡ after_write id bytes.now result self.old.contents }
     {
-        let stream = &mut self.streams[id as usize - 1];
-        match stream.write(bytes) {
-            Ok(answer) => answer,
-            Err(_) => {
-                self.starve();
-                StreamWrite::Failed
-            }
-        }
+        self.streams[id as usize - 1].write(bytes)
     }
 
     fn shut_write(&mut self, id: u64)

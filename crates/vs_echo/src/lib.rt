@@ -1,6 +1,6 @@
 //! A host in memory whose one program gives back what it is given: it listens on one port, and each stream that is dialled there is an echo.
 //!
-//! It has no clients, its starts succeed, and a call fails only for want of memory.
+//! It has no clients, its starts succeed, and of its calls a dial alone can fail, for want of memory.
 #![tactic(auto)]
 
 mod echo_host;
