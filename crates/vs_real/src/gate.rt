@@ -10,16 +10,20 @@ use vs_outside::Gate;
 
 /// So many pauses in a row keep the processor and look again after a moment: a sleep takes longer than it is asked for, and where the other
 /// side moves soon that would be the longer wait.
-const LOOKS: u32 = 64;
+const LOOKS: u32 = 16;
 
-/// How often such a pause reads the clock, which takes about a microsecond in all.
-const READINGS: u32 = 16;
+/// How often such a pause reads the clock, which takes about five microseconds in all.
+const READINGS: u32 = 160;
 
 /// So many pauses behind them give up the processor at once, for a microsecond, which is as short as the system's clock allows.
 const SHORT_PAUSES: u32 = 16;
 
 /// So many pauses behind them take twice as long each as the one before. Those after them take a millisecond.
 const LONGER_PAUSES: u32 = 10;
+
+/// So many pauses, the first of a thread, are sleeps in any case: a new thread often gets the processor of the one that made it, and they
+/// share it until one of them sleeps.
+const FIRST_SLEEPS: u64 = 4;
 
 /// A gate that holds nothing up, for one thread. A step that moved nothing is made again at once, and where some of these are in a row the
 /// thread sleeps the longer the more they are, so that one that waits for long takes next to no processor time.
@@ -110,9 +114,9 @@ impl<R: Clock> Gate for BackoffGate<R> {
         if self.has_moved() {
             self.row = 0;
         }
-        match self.row.checked_sub(LOOKS) {
+        match sleeps_behind(self.pauses, self.row) {
             None => look_again(&self.rt),
-            Some(row) => thread::sleep(&self.rt, rest_behind(row)),
+            Some(sleeps) => thread::sleep(&self.rt, sleep_behind(sleeps)),
         }
         self.row = self.row.saturating_add(1);
     }
@@ -126,9 +130,18 @@ fn look_again<R: Clock>(rt: &R) {
     }
 }
 
+// Behind how many sleeps in a row the next pause sleeps, or none where it looks again: it is one of so many pauses, behind so many in a row.
+fn sleeps_behind(pauses: u64, row: u32) -> Option<u32> {
+    if pauses <= FIRST_SLEEPS {
+        Some(0)
+    } else {
+        row.checked_sub(LOOKS)
+    }
+}
+
 // How long a sleep is behind so many in a row.
-fn rest_behind(row: u32) -> Duration {
-    let longer = row.saturating_sub(SHORT_PAUSES);
+fn sleep_behind(sleeps: u32) -> Duration {
+    let longer = sleeps.saturating_sub(SHORT_PAUSES);
     if longer < LONGER_PAUSES {
         Duration::from_micros(1u64 << longer)
     } else {
