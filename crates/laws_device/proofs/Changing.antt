@@ -55,12 +55,7 @@ same_replaced f e (x ∷ xs) is = by (same_flow f x.flow) refl is (same_replaced
     by : (b : Bool) → same_flow f x.flow ≡ b → cond b (x.end ∷ ends_of f xs) (ends_of f xs) ≡ e ∷ [] →
         (ends_of f xs ≡ e ∷ [] → replaced f e xs ≡ xs)
         → replaced f e (x ∷ xs) ≡ x ∷ xs
-    by true same one rest =
-        let head : x.end ≡ e = cc in
-        let tail : ends_of f xs ≡ [] = cc in
-        rw same (ap (λ (z : ConnectionEnd). let y : FlowEnd = record x { end = z } in y ∷ replaced f e xs) (sym head)
-        ∙ ap (λ (zs : List FlowEnd). x ∷ zs) (none_replaced f e xs tail))
-    by false same one rest = rw same (ap (λ (zs : List FlowEnd). x ∷ zs) (rest one))
+    by b same one rest = grind (arith, common_steps, replaced, none_replaced)
 
 module _ (carry : Carried) (port : ℕ) (s : DeviceState) (fits : IsFitState s) where
   pub same : Changes carry port s s

@@ -60,9 +60,7 @@ When A honest host l = honest ≡ true → A l
 over : (call : DeviceCall) (a : DeviceAnswer call) (L : Rings → Type 0) (f : Rings → Rings) (R : EndLog → Type 0) (g : EndLog → EndLog) (c d : Situation)
     → DeviceMoves call a L f R g c.ring d.ring → d.host ≡ c.host → (A B : EndLog → Type 0)
     → ((l : EndLog) → c.ring.honest ≡ true → R l → A l → IsFairLog Device (g l).entries → B (g l)) → Tells true (When A) c → Tells true (When B) d
-over call a L f R g c d made same A B step at =
-    moves true call a L f R g c d made same (λ h o l. (c.ring.honest ≡ h) × When A h o l) (When B)
-    (λ h o l r was fair on. step l (was.0 ∙ on) r (was.1 on) (fair on)) (record { sure = tt; told = λ l is. (refl, at.told l is) })
+over call a L f R g c d made same A B step at = grind (arith, common_steps, moves)
 
 module _ (first : ℕ) where
   abbrev At : Fields → EndLog → Type 0
@@ -84,9 +82,7 @@ module _ (first : ℕ) where
   returned n q page log at = grind (arith, common_steps)
 
   rx_at : (n : Fields) (a : Next) (page : Option (List ℕ)) (l : EndLog) → IsTakenWhole Rx a page → At n l → At (after_rx a n) (log_taken Rx a page l)
-  rx_at n (next.Chain chain) page l whole at = taken_other Rx n (next.Chain chain) page l (λ tx. cc) whole at
-  rx_at n next.None page l whole at = at
-  rx_at n (next.Failed f) page l whole at = absurd whole
+  rx_at n a page l whole at = grind (arith, common_steps, taken_other)
 
   took_page : (queue : Queue) → (queue ≡ Tx → ⊥) → (n : Fields) (a : Next) (c d : Situation) → Moves (Ring (Take queue)) a c d → P None n c → P None n d
   took_page queue other n a c d made at = over _ _ _ _ _ (log_taken queue a made.0.0) c d made.0.1 made.1 (At n) (At n)

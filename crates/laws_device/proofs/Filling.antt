@@ -7,11 +7,11 @@ use Rattle.laws_device.proofs.Carried.Changing.{asks_streams, called_host, close
 use Rattle.laws_device.{proofs.Carried.{Tabled.value_contained, Gives.pays_gives}, specs.{Carried.Streamed.{ports_of, IsStreamed}, Honest.IsFitState}}
 use Rattle.laws_tables.{specs.{Ends.{is_among, is_new}, Steps.payload_on}, proofs.{Keeps.owed_old, Slots.found_by}}
 use Rattle.vs_ring_port.specs.{EndLog.EndLog, declared.{device_ring.Chain.Chain, failure.Failure.Failure}}
-use Rattle.std.proofs.Common.{◌≡◌, ℕ, ◌+◌, ◌≤◌, ◌==◌, ◌&&◌, ◌||◌, not, Bool, true, false, cond, if◌then◌else◌, List, [], ◌∷◌, length, Contains, Option, Some, None, Result, Ok, Err}
+use Rattle.std.proofs.Common.{◌≡◌, ℕ, ◌+◌, ◌≤◌, ◌==◌, ◌&&◌, ◌||◌, not, Bool, true, false, cond, if◌then◌else◌, List, [], ◌∷◌, length, Contains, Option, Some, None, Result, Err}
 use Rattle.std.proofs.{Common.{refl, sym, subst, ◌∙◌, arith, IfSome, IsOkAnd, inl, inr}, lemmas.Grind.common_steps}
 use Rattle.vs_contents.specs.CallTree.{Done, bind, for_each, while_up_to}
 use Rattle.vs_conn.specs.{End.{CanSend, ConnectionEnd, owes_of, paid_of, state_may_send, wanting_credit, with_payload_sent}, Headers.{owed_header, payload_header}}
-use Rattle.vs_conn.{specs.declared.end.{Owed.Owed, State.State, Stop.TheVariants.ShutDown}, proofs.Frames.paid_asked}
+use Rattle.vs_conn.{specs.declared.end.{Owed.Owed, State.State}, proofs.Frames.paid_asked}
 use Rattle.vs_credit.specs.Credit.{free_of}
 use Rattle.vs_flow.specs.Table.{IsTable, entry_under, slots, with_value}
 use Rattle.vs_header.specs.declared.Header.{Header}
@@ -35,13 +35,7 @@ live_old e is = grind (arith, common_steps, is)
 
 -- where both ends let it send, so much may be sent as there is credit for
 may_send_on : (e : ConnectionEnd) (s : State) (n : ℕ) → may_read e s ≡ true → n ≤ free_of e.credit → IsOkAnd (state_may_send s e) (λ free. n ≤ free)
-may_send_on e state.Live n may fits = live e.own.send e.peer.receive may
-  where
-    live : (a b : Bool) → (not b && not a) ≡ true → IsOkAnd (cond (a || b) (Err ShutDown) (Ok (free_of e.credit))) (λ free. n ≤ free)
-    live false false is = fits
-    live true false is = absurd cc
-    live _ true is = absurd cc
-may_send_on e _ n may fits = absurd cc
+may_send_on e s n may fits = grind (arith, common_steps, free_of)
 
 pub can_send : (e : ConnectionEnd) (n : ℕ) → may_read e e.state ≡ true → n ≤ free_of e.credit → CanSend e n
 can_send e n may fits = may_send_on e e.state n may fits

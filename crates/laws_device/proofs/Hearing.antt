@@ -216,11 +216,7 @@ module _ (carry : Carried) (lines : List Handshake) (first port : ℕ) (s : Devi
         none_new = fewer _ _ _ (after (verdict_of e.value.end h) refl) (omega arith)
 
         heard_fits : IsFitConnection (heard h e.value)
-        heard_fits = record {
-          bytes = none_new;
-          new = λ new. let n = (entry_fits s was.fits e there).new (still_new e.value.end h new) in
-              record { by_client = n.by_client; ok_line = n.ok_line; pending = n.pending; asked_at = n.asked_at; shut_at = n.shut_at };
-        }
+        heard_fits = grind (arith, common_steps, none_new, still_new)
 
         hears : (v : Verdict) → verdict_of e.value.end h ≡ v → peer_resets v h ≡ false
             → LeftBy carry first port s.cid s.overrun (with_connection e.slot (heard h e.value) s).table s.replies s.clean

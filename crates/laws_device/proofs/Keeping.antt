@@ -1,4 +1,6 @@
 -- What a conversation keeps of its ring: what holds at each of its ends, where each of its calls on the ring may be made.
+use Rattle.std.proofs.lemmas.Grind.{common_steps}
+use Rattle.std.proofs.Common.{arith}
 use Rattle.std.{proofs.Common.{◌≡◌, ℕ, ◌<◌, ◌^◌, Bool, true, List, Contains, subst}, specs.Option.ForSome}
 use Rattle.vs_contents.specs.CallTree.{Done, Ask, bind, for_each, while_up_to}
 use Rattle.vs_ring_port.specs.{Contents.{RingContents, DeviceCall, Read, Write, Return, PublishCid, DeviceAnswer}, DeviceCalls.{CanReturn, LeavesNoGap, DeviceAllows}}
@@ -23,9 +25,7 @@ Can (Ring (PublishCid cid)) c = cid < 2 ^ 64
 Can _ c = Unit {0}
 
 can_ring : (call : DeviceCall) (s : Situation) → Can (Ring call) s.ring → CanPut (Ring call) s
-can_ring (Write chain place bytes) s can = can.0
-can_ring (Return chain len) s can = can.0
-can_ring _ s can = tt
+can_ring call s can = grind (arith, common_steps)
 
 can_make : (call : Call) (s : Situation) → Can call s.ring → CanPut call s
 can_make (Ring call) s can = can_ring call s can

@@ -1,4 +1,6 @@
 -- The device over any ring that tells its log: the walk of its conversations with nothing that an honest ring gives.
+use Rattle.std.proofs.lemmas.Grind.{common_steps}
+use Rattle.std.proofs.Common.{arith}
 use Rattle.std.proofs.Common.{◌≡◌, ℕ, ◌<◌, ◌^◌, Bool, true, false, List, [], Option, Some, None, refl, sym, ap, subst}
 use Rattle.vs_contents.specs.{CallTree.{Done, Ask}, Contents.Exposes}
 use Rattle.vs_flow.specs.{Table.refusal, declared.flow.Flow.Flow}
@@ -46,15 +48,7 @@ exposes_weaker (Some x) new P Q f then exposes = (then x exposes.0, exposes.1)
 
 unsure_moves : (call : DeviceCall) (a : DeviceAnswer call) (L : Rings → Type 0) (f : Rings → Rings) (Q R : EndLog → Type 0) (g : EndLog → EndLog) (c d : RingContents)
     → ((l : EndLog) → Q l → R l) → DeviceMoves call a L f Q g c d → DeviceMoves call a L f R g (unsure c) (unsure d)
-unsure_moves call a L f Q R g c d then made = record {
-  lists = made.lists;
-  log = exposes_weaker c.log d.log Q R g then made.log;
-  other = made.other;
-  plain = made.plain;
-  known = made.known;
-  honest = refl;
-  fair = λ never. absurd cc;
-}
+unsure_moves call a L f Q R g c d then made = grind (arith, common_steps, exposes_weaker)
 
 unsure_ring : (call : DeviceCall) (a : DeviceAnswer call) (c d : RingContents) → DeviceAllows call a c d → DeviceAllows call a (unsure c) (unsure d)
 unsure_ring (Take queue) a c d made = (made.0, unsure_moves _ _ _ _ _ _ _ c d (λ l asked. (asked.0, λ never. absurd cc)) made.1)

@@ -1,7 +1,7 @@
 -- What one packet does to the log: the packet that is put, the one that is taken, and an event.
 use Rattle.std.proofs.Common.{arith}
 use Rattle.std.proofs.lemmas.Grind.{common_steps}
-use Rattle.std.proofs.Common.{◌≡◌, ℕ, ◌+◌, Bool, true, List, [], ◌∷◌, ◌++◌, length, take, drop, Option, Some, None, Result, refl, sym, ap, subst, ◌∙◌}
+use Rattle.std.proofs.Common.{◌≡◌, ℕ, ◌+◌, Bool, true, List, [], ◌∷◌, ◌++◌, length, take, drop, Option, Some, Result, refl, sym, ap, subst, ◌∙◌}
 use Rattle.std.{proofs.lemmas.List.append-nil, specs.Option.{ForSome}}
 use Rattle.vs_contents.specs.Contents.{Relates}
 use Rattle.vs_header.specs.{Packet.{header_bytes, header_of}, declared.{Header.Header, TheConstants.HEADER_LEN}}
@@ -9,7 +9,7 @@ use Rattle.laws_history.specs.{Packets.is_rw, declared.packet.Packet.Packet}
 use Rattle.vs_page.specs.{Held.{packet_held}, Overwriting.overwritten, declared.log.LogEntry.TheVariants.{PutEvent, PutPacket}}
 use Rattle.vs_ring_port.specs.{Chains.{Held}, DeviceCalls.{DeviceMoves}, Lists.Rings, declared.{device_ring.Chain.Chain, failure.Failure.Failure}}
 use Rattle.vs_ring_port.specs.{declared.queue.Queue.TheVariants.{Event, Rx, Tx}, Contents.{DeviceAnswer, DeviceCall, Read, Return, RingContents, Take, Write}, EndLog.EndLog}
-use Rattle.vs_ring_port.specs.EndLog.{log_returned, log_written, with_packet}
+use Rattle.vs_ring_port.specs.EndLog.{log_returned, with_packet}
 use Rattle.vs_device_parts.specs.{Calls.{Allows, Ring, Situation}, Playing.Runs, Receiving.{event_on, written}, State.DeviceState}
 use Rattle.laws_device.{specs.Packets.{HasAdded, HasTaken, HoldsLast, IsWholeAs, packet_with}, proofs.{Chains.{both_written, first_written}}}
 use Rattle.laws_device.proofs.{Ringing.{returned_entries, returned_held, written_held}}
@@ -34,15 +34,11 @@ record Wrote (chain : Chain) (bytes : List ℕ) (others : List Held) (old new : 
 module _ (chain : Chain) (others : List Held) where
   writes : (bytes more : List ℕ) (place : ℕ) (a b : Situation) → ForSome a.ring.log (HoldsLast chain bytes others)
       → Allows (Ring (Write chain place more)) tt a b → Relates a.ring.log b.ring.log (Wrote chain (overwritten bytes place more) others)
-  writes bytes more place a b first allowed =
-      related _ _ _ _ _ (log_written chain place more) a.ring b.ring allowed.0 (Wrote chain (overwritten bytes place more) others)
-      (λ l is asked. record { entries = refl; held = written_held chain bytes more place others l (first l is) })
+  writes bytes more place a b first allowed = grind (arith, common_steps, written_held)
 
   -- What follows in the next situation.
   told : (bytes : List ℕ) (o p : Option EndLog) → Relates o p (Wrote chain bytes others) → ForSome p (HoldsLast chain bytes others)
-  told bytes None p wrote = λ l is. let no : None ≡ Some l = sym wrote ∙ is in absurd cc
-  told bytes (Some l) None wrote = absurd wrote
-  told bytes (Some l) (Some m) wrote = λ n is. subst (HoldsLast chain bytes others) (let same : m ≡ n = cc in same) wrote.held
+  told bytes o p wrote = grind (arith, common_steps)
 
   again : (bytes more : List ℕ) (o p q : Option EndLog) → Relates o p (Wrote chain bytes others) → Relates p q (Wrote chain more others)
       → Relates o q (Wrote chain more others)

@@ -1,7 +1,8 @@
 -- The steps at which the device puts a packet: payload is sent, what is owed is paid, a reply is given.
+use Rattle.std.proofs.lemmas.Grind.{common_steps}
 use Rattle.std.proofs.{Common.{◌≡◌, ℕ, suc, ◌<◌, ◌^◌, false, List, [], ◌∷◌, ◌++◌, length, Contains, Some, refl, sym, ap, subst, ◌∙◌, arith}, lemmas.List.append-nil}
 use Rattle.std.specs.List.{All}
-use Rattle.vs_conn.specs.{Headers.{owed_flags, owed_header, owed_op, payload_header}, End.{CanSend, ConnectionEnd, owes_of, paid_of, with_payload_sent}, declared.end.Owed.Owed}
+use Rattle.vs_conn.specs.{Headers.{owed_header, payload_header}, End.{CanSend, ConnectionEnd, owes_of, paid_of, with_payload_sent}, declared.end.Owed.Owed}
 use Rattle.vs_conn.{specs.Follows.FitsMessage, proofs.{Frames.paid_kind, Steps.stream_fits}}
 use Rattle.vs_header.specs.{Packet.header_bytes, declared.Header.Header}
 use Rattle.laws_history.specs.{History.puts, declared.packet.Packet.Packet}
@@ -10,7 +11,7 @@ use Rattle.vs_page.{specs.{Log.{Device, Log, history_of}, Fair.IsFairLog, Held.{
 use Rattle.vs_page.proofs.Packets.{held_payload}
 use Rattle.vs_replies.specs.declared.Reply.{Reply}
 use Rattle.laws_tables.{specs.{Steps.{owed_on, paid, payload_on, with_end}, Ends.{Ends, is_new}, Matches.Matches, Both.{Pays, Replies, Seat, Sends}}, proofs.Keeps.{owed_old, pays}}
-use Rattle.laws_tables.proofs.{Keeps.{pays_fair, replies, replies_fair, sends, sends_fair}, OwedFlags.owed_flags_fit}
+use Rattle.laws_tables.proofs.{Keeps.{pays_fair, replies, replies_fair, sends, sends_fair}}
 use Rattle.laws_device.proofs.{Tabling.{begun_fits, connection_ends, connection_fits, entry_fits, has_end, left_ends, left_fits}, Seats.{Carried, at_log, seat}}
 use Rattle.laws_device.{proofs.Fits.{fits_paid, fits_sent}, specs.Honest.{HoldsBytes, IsFit, IsFitEntry, IsFitFlow, IsFitReply, IsFitState, ends_of_state, ends_with}}
 use Rattle.vs_device_parts.specs.{State.{DeviceConnection, DeviceEntry, DeviceState}, Connections.{route_to_guest, with_connection}, Receiving.reply_header}
@@ -104,9 +105,7 @@ module _ (carry : Carried) (port : ℕ) (s : DeviceState) (fits : IsFitState s) 
       header = owed_header e.value.end (route_to_guest s.cid e.flow) what
 
       wire : FitsWire (owed_header e.value.end (route_to_guest s.cid e.flow) what)
-      wire = header_fits _ (route_fits s.cid e.flow fits.cid_fits entry.ports) e.value.end (owed_op what) (owed_flags e.value.end what) 0
-          (omega (arith, entry.bytes.alloc))
-          entry.bytes.fwd (owed_flags_fit e.value.end what owes) (omega arith)
+      wire = grind (arith, common_steps, route_fits, entry)
 
       pays_to : (t : DeviceState) → IsFitState t → t.overrun ≡ s.overrun → paid e.flow e.value.end what
           (ends_of_state port s) ≡ ends_of_state port t

@@ -75,9 +75,7 @@ bytes_held chain bytes others l is = ap (bytes_in chain) is ∙ first_bytes chai
 
 first_written : (chain : Chain) (bytes new : List ℕ) (others : List Held)
     → with_bytes chain new (record { chain = chain; bytes = bytes } ∷ others) ≡ record { chain = chain; bytes = new } ∷ others
-first_written chain bytes new others =
-    let h : Held = record { chain = chain; bytes = bytes } in
-    ap (λ (b : Bool). cond b (record h { bytes = new } ∷ others) (h ∷ with_bytes chain new others)) (same_self chain)
+first_written chain bytes new others = grind (arith, common_steps)
 
 pub written_held : (chain : Chain) (bytes new : List ℕ) (place : ℕ) (others : List Held) (l : EndLog) → HoldsFirst chain bytes others l
     → HoldsFirst chain (overwritten bytes place new) others (log_written chain place new l)

@@ -1,9 +1,8 @@
 -- What steps on the table do to the device's numbers, and to its connections as ends.
 use Rattle.std.proofs.lemmas.Grind.{common_steps}
-use Rattle.std.proofs.Common.{◌≡◌, ℕ, ◌+◌, ◌-◌, ◌==◌, drop, Bool, true, false, cond, not, List, [], ◌∷◌, get_or, refl, arith, length, Contains, sym, ap, subst, ◌∙◌}
-use Rattle.std.{proofs.lemmas.List.Elements.{All-cons, All-drop, All-map, All-push, All-tail, All-filter}, specs.List.All}
+use Rattle.std.proofs.Common.{◌≡◌, ℕ, ◌+◌, ◌-◌, ◌==◌, Bool, true, false, cond, not, List, [], ◌∷◌, get_or, refl, arith, length, Contains, sym, ap, subst, ◌∙◌}
+use Rattle.std.{proofs.lemmas.List.Elements.{All-cons, All-map, All-push, All-tail, All-filter}, specs.List.All}
 use Rattle.vs_header.specs.declared.Kind.TheVariants.{Stream}
-use Rattle.vs_limits.specs.declared.TheConstants.{CLEAN_PAIRS}
 use Rattle.vs_flow.specs.{CleanPairs.{kept_if, without_oldest}, Flow.same_flow, Table.{Table, with_value, without, with_entry, next_entry, revalued}, declared.flow.Flow.Flow}
 use Rattle.vs_flow.proofs.Tables.{with_value_sound, without_sound, with_entry_sound, IsAccepted}
 use Rattle.laws_tables.{specs.{Ends.{Ends, FlowEnd, entries_of, is_new}, Steps.{HasEnd, with_clean, with_end, left}}, proofs.Slots.{changed_slot, one_end, removed_slot}}
@@ -26,9 +25,7 @@ revalued_fits slot c e held kind fits = grind (arith, common_steps)
 
 -- A flow more is kept, or not.
 kept_fit : (keep : Bool) (f : Flow) (fs : List Flow) → All IsFitClean fs → (keep ≡ true → IsFitClean f) → All IsFitClean (kept_if keep f fs)
-kept_fit false f fs each own = each
-kept_fit true f fs each own =
-    let n : ℕ = length fs + 1 - CLEAN_PAIRS in All-push IsFitClean (drop n fs) f (All-drop IsFitClean n fs each) (own refl)
+kept_fit keep f fs each own = grind (arith, common_steps)
 
 -- And one is used again.
 pub removed_fit : (f : Flow) (fs : List Flow) → All IsFitClean fs → All IsFitClean (without_oldest (same_flow f) fs)

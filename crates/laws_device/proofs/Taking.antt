@@ -56,9 +56,7 @@ module _ (carry : Carried) (first port : ℕ) (s : DeviceState) (p : Packet) (lo
     -- What it does by the ends of its flow.
     taken_as : (ends : List ConnectionEnd) (answer : Bool) → ends_of flow_is part.entries ≡ ends
         → after_taking Device p answer part ≡ after_packet Device ends p flow_is answer part
-    taken_as ends answer is =
-        ap (λ (b : Bool). cond b part (after_packet Device (ends_of flow_is part.entries) p flow_is answer part)) kept
-        ∙ ap (λ (es : List ConnectionEnd). after_packet Device es p flow_is answer part) is
+    taken_as ends answer is = grind (arith, common_steps)
 
     -- A packet of a connection of the table.
     module _ (e : DeviceEntry) (there : Contains s.table.entries e) (flow : flow_to_host p.header ≡ e.flow) where

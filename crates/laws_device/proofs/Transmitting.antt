@@ -30,9 +30,7 @@ some_test false o x is = absurd cc
 
 header_by : (h : Header) (p : Packet) (o : Option (List ℕ)) → option_map (λ payload. record { header = h; payload = payload }) o ≡ Some p
     → p.header ≡ h
-header_by h p None is = absurd cc
-header_by h p (Some payload) is = let same : ◌≡◌ {A = Packet} record { header = h; payload = payload } p = cc in sym
-    (ap (λ (q : Packet). q.header) same)
+header_by h p o is = grind (arith, common_steps)
 
 pub header_is : (page : List ℕ) (p : Packet) → packet_held page ≡ Some p → p.header ≡ header_of (take HEADER_LEN page)
 header_is page p held =

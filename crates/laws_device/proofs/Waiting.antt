@@ -64,14 +64,10 @@ new_asks : (e : ConnectionEnd) → is_new e ≡ true → e.state ≡ Asked
 new_asks e is = grind (arith, common_steps)
 
 opens_by : (s : StreamState) → waits s ≡ false → closes s ≡ false → is_open_in s ≡ true
-opens_by state.Waiting a b = absurd cc
-opens_by state.Open a b = refl
-opens_by state.Closed a b = absurd cc
+opens_by s a b = grind (arith, common_steps)
 
 still_by : (s : StreamState) → is_open_in s ≡ true → closes s ≡ false
-still_by state.Waiting is = absurd cc
-still_by state.Open is = refl
-still_by state.Closed is = absurd cc
+still_by s is = grind (arith, common_steps)
 
 -- Where a flow is in the table, as its log leaves it open or it is new, and each flow of these has what those of the table have.
 pub tied_by : (among opened new waits : Bool) → among ≡ (opened || new) → (new ≡ true → waits ≡ true) → (waits ≡ true → among ≡ true)

@@ -8,15 +8,15 @@ use Rattle.vs_header.specs.declared.Kind.TheVariants.{Stream}
 use Rattle.vs_page.specs.{Log.{Driver, Log}, Fair.IsFairLog, declared.{log.LogEntry.TheVariants.PutPacket, page.TheConstants.PAYLOAD_MAX}}
 use Rattle.vs_ring_port.specs.{declared.queue.Queue.{TheVariants.{Rx, Tx, Event}, Queue}, Contents.RingContents, EndLog.{EndLog, entries_marked, log_loaded, log_published, log_staged}}
 use Rattle.vs_ring_port.specs.DriverCalls.{Publish}
-use Rattle.laws_tables.{specs.{Ends.Ends, Matches.Matches, Steps.{payload_on, request_on}}, proofs.Keeps.start_matches}
+use Rattle.laws_tables.{specs.{Ends.Ends, Matches.Matches, Steps.{payload_on, request_on}}}
 use Rattle.vs_driver_parts.specs.Conversations.{DriverTree, connect_to, connect_with_page, has_page, load_cid, new_of, new_state, no_credit, not_sent, one_more_in_flight}
 use Rattle.vs_driver_parts.specs.Conversations.{payload_bytes, payload_of, poll_of, post_all, post_events, post_one, post_packet, posts, publish_of, reap_all, request_bytes}
 use Rattle.vs_driver_parts.specs.{Conversations.{send_of, send_stopped, send_with_page, stage_of}, Connections.{connect_refusal, connected, next_flow}}
 use Rattle.vs_driver_parts.specs.{declared.answers.{ConnectError.ConnectError, Polled.Polled, Sent.Sent}, Playing.{MayPublishAll, Plays}, State.{DriverEntry, DriverState}}
 use Rattle.vs_driver_parts.{specs.{State.entry_known_as, Steps.sends}, proofs.Clean.none_clean}
-use Rattle.vs_limits.specs.declared.TheConstants.{HOST_CID, LAST_PORT, STAGED_MAX}
+use Rattle.vs_limits.specs.declared.TheConstants.{HOST_CID, LAST_PORT}
 use Rattle.laws_driver.{specs.{Honest.{AgreesWith, IsFitState, IsFresh, IsHonestWith, ends_of_state}, Staged.IsLeft}, proofs.Polling.{not_tx_event, not_tx_rx, poll_keeps}}
-use Rattle.laws_driver.proofs.{Changing.{Changes, stands_known, wanting_changes}, Keeping.{Keeps, keeps_bind, keeps_end, keeps_may, keeps_weaker, keeps_while}, Ringing.{Given, RestsAs, can_publish_other, can_stage_other}}
+use Rattle.laws_driver.proofs.{Changing.{Changes, stands_known, wanting_changes}, Keeping.{Keeps, keeps_bind, keeps_end, keeps_may, keeps_weaker, keeps_while}, Ringing.{Given, RestsAs}}
 use Rattle.laws_driver.proofs.{Ringing.{Tells, agrees, at_rest, moves, tells_weaker}, Carrying.{Fact, Holds, RestsWith, carries_nothing}}
 use Rattle.laws_driver.proofs.{Carrying.nothing, Staging.{Rests, SameBut, post_tx, reap_keeps}, Putting.{connect_puts, send_puts}, Tabling.{Stands, fits_weaker}}
 use Rattle.vs_driver_parts.specs.declared.answers.ConnectError.TheVariants as refused
@@ -32,13 +32,7 @@ honest_of hosts first fact s c rests = tells_weaker true (RestsWith true hosts f
 -- A step that puts and gets nothing.
 changed_left : (fairly hosts : Bool) (first : ℕ) (s t : DriverState) (log : Log) → Changes hosts s t
     → Given fairly (IsLeft hosts first s.broken (ends_of_state s) [] log) → Given fairly (IsLeft hosts first t.broken (ends_of_state t) [] log)
-changed_left true hosts first s t log step left = record {
-  none_refused = λ all. step.broken ∙ left.none_refused all;
-  matches = step.matches first log left.matches;
-  fair = left.fair;
-  marks = left.marks;
-}
-changed_left false hosts first s t log step left = tt
+changed_left fairly hosts first s t log step left = grind (arith, common_steps)
 
 given_matches : (fairly hosts : Bool) (first broken : ℕ) (part : Ends) (log : Log) → Given fairly (IsLeft hosts first broken part [] log)
     → Given fairly (Matches Driver first part log)
@@ -203,10 +197,7 @@ module _ (fairly hosts : Bool) (first id : ℕ) (bytes : List ℕ) (before : Fac
         → (IsFitState hosts s → Stands s e) → may_send_of e.value.end ≡ Ok credit → Rests fairly hosts first before s c
         → Keeps SendRests (cond a (Done (s, sent.Took 0)) (cond b (Done (connections.with_end (wanting_credit e.value.end) e s, no_credit e.value.end))
         (page e (payload_of credit bytes) s))) c
-    credit_by true b e credit s c known stands is rests =
-        goes_over fairly hosts first before (after (sent.Took 0)) s c (λ log held. steps.empty s log held) rests
-    credit_by false true e credit s c known stands is rests = wanting e s c stands rests
-    credit_by false false e credit s c known stands is rests = paged e credit s c known stands is rests
+    credit_by a b e credit s c known stands is rests = grind (arith, common_steps, goes_over, wanting)
 
     stop_by : (r : Result ℕ Stop) (e : DriverEntry) (s : DriverState) (c : RingContents) → entry_known_as id s ≡ Some e
         → (IsFitState hosts s → Stands s e) → may_send_of e.value.end ≡ r → Rests fairly hosts first before s c
@@ -260,18 +251,10 @@ Fresh l = (l.entries ≡ []) × (l.staged.tx ≡ [])
 
 module _ (queue : Queue) (other : queue ≡ Tx → ⊥) (l : EndLog) (fresh : Fresh l) where
   fresh_published : Fresh (log_published queue l)
-  fresh_published = by queue other
-    where
-      by : (q : Queue) → (q ≡ Tx → ⊥) → Fresh (log_published q l)
-      by Tx not = absurd (not refl)
-      by _ not = fresh
+  fresh_published = grind (arith, common_steps)
 
   fresh_staged : (page : List ℕ) → Fresh (log_staged queue page l)
-  fresh_staged page = by queue other
-    where
-      by : (q : Queue) → (q ≡ Tx → ⊥) → Fresh (log_staged q page l)
-      by Tx not = absurd (not refl)
-      by _ not = fresh
+  fresh_staged page = grind (arith, common_steps)
 
 module _ (size port id : ℕ) (port_fits : port ≤ LAST_PORT) where
   abbrev made : DriverState
@@ -295,13 +278,7 @@ module _ (size port id : ℕ) (port_fits : port ≤ LAST_PORT) where
   }
 
   made_left : (fairly : Bool) (cid : ℕ) → Given fairly (IsLeft true cid 0 (ends_of_state (record made { cid = cid })) [] [])
-  made_left true cid = record {
-    none_refused = λ all. refl;
-    matches = start_matches Driver cid port;
-    fair = λ f. tt;
-    marks = tt;
-  }
-  made_left false cid = tt
+  made_left fairly cid = grind (arith, common_steps)
 
   module _ (fairly : Bool) where
     abbrev IsMade : DriverState → RingContents → Type 0
@@ -309,13 +286,7 @@ module _ (size port id : ℕ) (port_fits : port ≤ LAST_PORT) where
 
     module _ (queue : Queue) (other : queue ≡ Tx → ⊥) where
       publish_made : (s : DriverState) (c : RingContents) → IsMade s c → Keeps IsMade (publish_of queue s) c
-      publish_made s c is = (
-        can_publish_other queue c other,
-        λ a d call. (
-          ap (λ (x : DriverState). let y : DriverState = record x { staged = 0 } in y) is.0,
-          moves fairly _ _ _ _ _ (log_published queue) c d call.1 Fresh Fresh (λ l fresh fair. fresh_published queue other l fresh) is.1,
-        ),
-      )
+      publish_made s c is = grind (arith, common_steps, moves, fresh_published)
 
       made_by : (b : Bool) (s : DriverState) (c : RingContents) → IsMade s c
           → Keeps IsMade (cond b (Ask (Publish queue) (λ _. Done (record s { staged = 0 }))) (Done (record s { staged = s.staged + 1 }))) c
@@ -323,11 +294,7 @@ module _ (size port id : ℕ) (port_fits : port ≤ LAST_PORT) where
       made_by false s c is = (ap (λ (x : DriverState). let y : DriverState = record x { staged = s.staged + 1 } in y) is.0, is.1)
 
       stage_made : (s : DriverState) (c : RingContents) → IsMade s c → Keeps IsMade (stage_of queue [] s) c
-      stage_made s c is = (
-        can_stage_other queue [] c other,
-        λ a d call. made_by (s.staged + 1 == STAGED_MAX) s d
-            (is.0, moves fairly _ _ _ _ _ (log_staged queue []) c d call Fresh Fresh (λ l fresh fair. fresh_staged queue other l fresh []) is.1),
-      )
+      stage_made s c is = grind (arith, common_steps, made_by, moves, fresh_staged)
 
       post_one_made : (s : DriverState) (c : RingContents) → IsMade s c → Keeps (λ r d. IsMade r.0 d) (post_one queue s) c
       post_one_made s c is = keeps_bind (λ (r : DriverState × Bool) d. IsMade r.0 d) (stage_of queue [] s) (λ t. Done (t, true)) c (stage_made s c is)

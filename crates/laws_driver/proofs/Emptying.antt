@@ -1,12 +1,12 @@
 -- The step that takes the event page of a transport reset: whatever a ring answers besides, the driver's table is empty then.
 use Rattle.std.proofs.{Common.arith, lemmas.Grind.common_steps}
-use Rattle.std.{proofs.Common.{◌≡◌, ℕ, ◌==◌, not, nat_lt, Bool, true, false, cond, List, [], ◌∷◌, length, Option, Some, refl, ap, subst, ◌∙◌}, specs.List.filter}
+use Rattle.std.{proofs.Common.{◌≡◌, ℕ, ◌==◌, not, nat_lt, Bool, true, false, cond, List, [], ◌∷◌, length, Option, Some, ap, subst, ◌∙◌}, specs.List.filter}
 use Rattle.vs_contents.{specs.CallTree.{Ask, Done, Leads, bind}, proofs.Leads.{AllEnds, end_of}}
-use Rattle.vs_flow.{specs.{CleanPairs.of_host, Table.{IsRising, IsTable}}, proofs.Entries.rising_tail}
+use Rattle.vs_flow.{specs.{Table.{IsRising, IsTable}}, proofs.Entries.rising_tail}
 use Rattle.vs_limits.specs.declared.TheConstants.{DRIVER_REPLIES_FULL}
-use Rattle.vs_ring_port.specs.{DriverCalls.{DriverAnswer, DriverCall, LoadCid, Reap}, declared.queue.Queue.TheVariants.Event}
+use Rattle.vs_ring_port.specs.{DriverCalls.{DriverAnswer, DriverCall, Reap}, declared.queue.Queue.TheVariants.Event}
 use Rattle.vs_driver_parts.specs.{Conversations.{DriverTree, Round, event_reaped, staged_again, start}, Connections.after_leaving, State.{DriverEntry, DriverState}}
-use Rattle.vs_driver_parts.{specs.{Steps.takes_page, Receiving.{after_reset, all_left, is_reset_event, reset_reply, with_reply}}, proofs.Packets.others_left}
+use Rattle.vs_driver_parts.{specs.{Steps.takes_page, Receiving.{all_left, is_reset_event, reset_reply, with_reply}}, proofs.Packets.others_left}
 
 abbrev IsEmpty : DriverState → Type 0
 IsEmpty s = s.table.entries ≡ []
@@ -26,14 +26,7 @@ taking s page = bind (event_reaped (start s) page) (λ r. Done r.0.state)
 
 module _ (s : DriverState) (page : List ℕ) (sound : IsTable s.table) (reset : is_reset_event page ≡ true) where
   page_empties : AllEnds IsEmpty (taking s (Some page))
-  page_empties = by (is_reset_event page) reset
-    where
-      by : (b : Bool) → b ≡ true → AllEnds IsEmpty (bind (bind (cond b
-          (Ask LoadCid (λ cid. Done (record (start s) { state = after_reset cid s; count = 1; reset = true })))
-          (Done (record (start s) { count = 1 }))) (staged_again Event)) (λ r. Done r.0.state))
-      by true is = λ cid. staged (record (start s) { state = after_reset cid s; count = 1; reset = true })
-          (none_left s.table.entries (record s { cid = cid; clean = of_host s.clean }) refl sound.rising)
-      by false is = absurd cc
+  page_empties = grind (arith, common_steps, staged, none_left)
 
   pub takes_empties : {S : Type 0} (Allows : (call : DriverCall) → DriverAnswer call → S → S → Type 0) (t : DriverState) (c d : S)
       → nat_lt DRIVER_REPLIES_FULL (length s.replies) ≡ false → ((o : Option (List ℕ)) (m : S) → Allows (Reap Event) o c m → o ≡ Some page)

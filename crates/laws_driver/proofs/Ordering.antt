@@ -1,4 +1,5 @@
 -- The driver over any ring that tells its log: the walk of its conversations with nothing that an honest ring gives.
+use Rattle.std.proofs.lemmas.Grind.{common_steps}
 use Rattle.std.proofs.Common.{ℕ, ◌<◌, ◌≤◌, ◌^◌, true, false, List, [], ◌∷◌, take, Result, refl, ap, arith}
 use Rattle.vs_contents.specs.CallTree.{Done, Ask}
 use Rattle.laws_history.specs.declared.packet.Packet.{Packet}
@@ -57,15 +58,7 @@ unsure c = record c { honest = false }
 
 unsure_moves : (call : DriverCall) (a : DriverAnswer call) (L : Rings → Type 0) (f : Rings → Rings) (R : EndLog → Type 0) (g : EndLog → EndLog) (c d : RingContents)
     → DriverMoves call a L f R g c d → DriverMoves call a L f R g (unsure c) (unsure d)
-unsure_moves call a L f R g c d made = record {
-  lists = made.lists;
-  log = made.log;
-  other = made.other;
-  plain = made.plain;
-  known = made.known;
-  honest = refl;
-  fair = λ never. absurd cc;
-}
+unsure_moves call a L f R g c d made = grind (arith, common_steps)
 
 unsure_allows : (call : DriverCall) (a : DriverAnswer call) (c d : RingContents) → RingAllows call a c d → RingAllows call a (unsure c) (unsure d)
 unsure_allows (Stage queue page) a c d made = unsure_moves _ _ _ _ _ _ c d made

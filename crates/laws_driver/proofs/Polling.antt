@@ -1,4 +1,5 @@
 -- What a poll keeps, part by part.
+use Rattle.std.proofs.lemmas.Grind.{common_steps}
 use Rattle.std.proofs.Common.{◌≡◌, ℕ, ◌+◌, ◌<◌, ◌^◌, ◌==◌, nat_le, nat_lt, Bool, true, false, cond, List, [], ◌∷◌, length, Option, Some, None, refl, sym, ap, subst, ◌∙◌, arith}
 use Rattle.std.proofs.lemmas.Bool.Decides.{nat_tests}
 use Rattle.vs_contents.specs.CallTree.{Done, Ask, bind}
@@ -6,7 +7,7 @@ use Rattle.vs_conn.specs.{End.owes_of, declared.end.Owed.Owed}
 use Rattle.vs_flow.specs.Table.{entry_under, slots}
 use Rattle.vs_header.specs.Packet.{header_bytes}
 use Rattle.laws_history.specs.declared.packet.Packet.{Packet}
-use Rattle.vs_page.specs.{declared.log.LogEntry.TheVariants.{GotEvent, GotPacket, Mark}, Fair.IsFairLog, Held.{IsWhole, event_held, packet_held}, Log.{Driver, Log, flow_got}}
+use Rattle.vs_page.specs.{declared.log.LogEntry.TheVariants.{GotEvent, GotPacket, Mark}, Fair.IsFairLog, Held.{IsWhole, packet_held}, Log.{Driver, Log, flow_got}}
 use Rattle.vs_page.proofs.Holding.{packet_whole}
 use Rattle.vs_replies.specs.declared.Reply.{Reply}
 use Rattle.vs_ring_port.specs.{EndLog.{EndLog, entries_marked, log_loaded, log_reaped, with_event, with_packet}, declared.queue.Queue.{TheVariants.{Rx, Tx, Event}, Queue}}
@@ -90,12 +91,7 @@ Begun true entries = (older : Log) × (entries ≡ GotEvent 0 ∷ older)
 Begun false entries = Unit {0}
 
 begun_by : (o : Option ℕ) (entries : Log) → Begun (elim o [ None ↦ false | Some id ↦ id == 0 ]) (with_event (λ id. GotEvent id) o entries)
-begun_by None entries = tt
-begun_by (Some id) entries = by (id == 0) refl
-  where
-    by : (b : Bool) → (id == 0) ≡ b → Begun b (GotEvent id ∷ entries)
-    by true is = let zero : id ≡ 0 = grind (arith, nat_tests, is) in (entries, ap (λ (n : ℕ). GotEvent n ∷ entries) zero)
-    by false is = tt
+begun_by o entries = grind (arith, common_steps)
 
 abbrev EventWith : Bool → Bool → ℕ → Fact → Bool → DriverState → EndLog → Type 0
 EventWith fairly hosts first fact b s l =
@@ -104,18 +100,7 @@ EventWith fairly hosts first fact b s l =
 event_with : (fairly hosts : Bool) (first : ℕ) (fact : Fact) → Carries fairly hosts first fact → (s : DriverState) (page : List ℕ) (l : EndLog)
     → RestsWith fairly hosts first fact s l → Given fairly (IsFairLog Driver (log_reaped Event (Some page) l).entries)
     → EventWith fairly hosts first fact (is_reset_event page) s (log_reaped Event (Some page) l)
-event_with fairly hosts first fact steps s page l rest fair =
-    ((rest.0.0, behind fairly rest.0.1 fair, begun_by (event_held page) l.entries, rest.0.2), by (event_held page))
-  where
-    behind : (b : Bool) → Given b (IsLeft hosts first s.broken (ends_of_state s) [] l.entries)
-        → Given b (IsFairLog Driver (log_reaped Event (Some page) l).entries)
-        → Given b (LeftBehind (is_reset_event page) hosts first s (log_reaped Event (Some page) l).entries)
-    behind true left fair = event_by hosts first s (event_held page) l.entries left fair
-    behind false left fair = tt
-
-    by : (o : Option ℕ) → Holds fact s (with_event (λ id. GotEvent id) o l.entries)
-    by None = rest.1
-    by (Some id) = steps.event id s l.entries rest.1
+event_with fairly hosts first fact steps s page l rest fair = grind (arith, common_steps, begun_by, event_by)
 
 -- The guest's CID is loaded.
 module _ (hosts : Bool) (first cid : ℕ) (s : DriverState) (less : cid < 2 ^ 64) (fits : IsFitState hosts s) where

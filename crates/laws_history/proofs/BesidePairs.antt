@@ -4,7 +4,6 @@ use Rattle.std.proofs.lemmas.Grind.{common_steps}
 use Rattle.laws_history.specs.{declared.packet.Packet.Packet, Again.{AllowsNow, IsFairAll, MayPutNow, present}, Beside.{AllowsBeside, IsFairBeside, MayPutBeside, is_plain_rst, steadied, steady}}
 use Rattle.laws_history.specs.History.{Entry, Got, HasGot, History, IsNext, Put, Side, gots, peer, puts}
 use Rattle.laws_history.specs.Packets.{IsFormed, allowance, bytes, forwarded_by, is_request, is_rst, size}
-use Rattle.vs_wrap.specs.Wrap.{unwrap32}
 use Rattle.laws_history.proofs.{Fair.{BothSound, sound}, Now.{next, now}, Present.fair_once, Steady.{AllFormed, Alike, alike, may_steady, now_formed}, TiedPairs.next_allowed}
 
 pub steady_puts : (h : History) → puts (steadied h) ≡ steady (puts h)
@@ -162,14 +161,7 @@ sound_beside side h fair =
 
 within : (side : Side) (put got : List Packet) (p : Packet) → AllFormed put → AllFormed got → MayPutBeside side put got p
     → is_request p ≡ false → is_rst p ≡ false → (bytes put + size p ≤ allowance got) × (forwarded_by put p ≤ bytes got)
-within side put got p formed_put formed_got may other plain =
-    let a = alike put formed_put in
-    let b = alike got formed_got in
-    let h = ((may.steadily (no_rst p plain)).goes_on other).honest plain in
-    (omega (arith, h.fits, a.payload, b.forwarded, b.alloc), subst₂ (λ n m. unwrap32 n p.header.fwd_cnt ≤ m) a.forwarded b.payload h.forwarded_got)
-  where
-    no_rst : (p : Packet) → is_rst p ≡ false → is_plain_rst p ≡ false
-    no_rst = grind (arith, common_steps)
+within side put got p formed_put formed_got may other plain = grind (arith, common_steps, alike)
 
 pub within_put : (side : Side) (h : History) (p : Packet) → IsFairBeside side (Put p ∷ h) → is_request p ≡ false → is_rst p ≡ false
     → let now = present h in (bytes (puts now) + size p ≤ allowance (gots now)) × (forwarded_by (puts now) p ≤ bytes (gots now))

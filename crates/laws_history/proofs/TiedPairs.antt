@@ -51,10 +51,7 @@ record SameNow (side : Side) (put more older : List Packet) : Type 0 where
   got_more : now_got side put (more ++ older) ≡ more ++ now_got side put older
 
 same_asker : (put more older : List Packet) → count is_request put ≤ count is_clean_rst older + 1 → SameNow Asker put more older
-same_asker put more older most = record {
-  put_same = refl;
-  got_more = after_more (count is_request put - 1) more older (omega arith);
-}
+same_asker put more older most = grind (arith, common_steps, after_more)
 
 same_answerer : (put more older : List Packet) → count is_request more ≡ 0 → SameNow Answerer put more older
 same_answerer put more older none =

@@ -49,10 +49,7 @@ module _ (p : PartsState) (w : Ends) (tied : AreTied p w) (queue : Queue) where
     none_used = first_of _ None _ (or_first _ _ _ used_is)
 
     none_parts : reaped_parts queue p ≡ p
-    none_parts = ap (λ (o : Option (ℕ × List ℕ)). with_driver queue (reaped_queue q o) p) none_used ∙ same queue
-      where
-        same : (r : Queue) → with_driver r (driver_at r p) p ≡ p
-        same queue = search arith
+    none_parts = grind (arith, common_steps, none_used)
 
     none_ends : after_driver (Reap queue) w ≡ w
     none_ends = grind (arith, common_steps)

@@ -98,15 +98,7 @@ differs_both (x ∷ xs) ys y (first, other) = let both = differs_both xs ys y ot
 -- one after the other
 untouched_then : (n : ℕ) (xs ys : List Spot) (s middle new : Shown) → Untouched n xs s middle → Untouched n ys middle new
     → Untouched n (xs ++ ys) s new
-untouched_then n xs ys s middle new one more = record {
-  desc = λ k is other. let o = differs_both xs ys (Describing k) other in more.desc k is o.1 ∙ one.desc k is o.0;
-  avail = λ other. let o = differs_both xs ys AvailIdx other in more.avail o.1 ∙ one.avail o.0;
-  entry = λ k is other. let o = differs_both xs ys (Entry k) other in more.entry k is o.1 ∙ one.entry k is o.0;
-  used = λ other. let o = differs_both xs ys UsedIdx other in more.used o.1 ∙ one.used o.0;
-  elem = λ k is other. let o = differs_both xs ys (Elem k) other in more.elem k is o.1 ∙ one.elem k is o.0;
-  page = λ k c is few other. let o = differs_both xs ys (PageOf k) other in more.page k c is few o.1 ∙ one.page k c is few o.0;
-  word = λ w other. let o = differs_both xs ys (WordOf n w) other in more.word w o.1 ∙ one.word w o.0;
-}
+untouched_then n xs ys s middle new one more = grind (arith, common_steps, differs_both)
 
 -- the same bytes are seen in the same way
 pub seen_same : (a : Areas) (at : ℕ) (m new : Memory) → new.base ≡ m.base → new.bytes ≡ m.bytes → shown a at new ≡ shown a at m

@@ -71,12 +71,7 @@ taken next.None n fit at = at
 taken (next.Failed f) n fit at = at
 
 tx_calls : TxCalls calls P
-tx_calls = record {
-  takes = λ n c at. (tt, λ a fit. taken a n fit at);
-  reads = λ chain len n c at. (tt, λ bytes any. at);
-  dials = λ chain path flow n c at. (tt, λ a fit. at);
-  returns = λ chain n c at. (tx_other chain.queue at.1, λ a fit. (at.0, tt));
-}
+tx_calls = grind (arith, common_steps, taken, tx_other)
 
 pub calm_turns : (size now : ℕ) (s : ProxyState) (a b : Situation) (x : ProxyState × Turn) → OwesNoEvent s.device → Runs (turn_of size now s) a x b
     → OwesNoEvent x.0.device × (resets_in b.ring.log ≡ resets_in a.ring.log)

@@ -6,13 +6,13 @@ use Rattle.vs_conn.specs.{End.owes_of, declared.end.Owed.Owed}
 use Rattle.vs_flow.specs.Table.{IsTable, entry_under, slots}
 use Rattle.vs_replies.specs.declared.Reply.{Reply}
 use Rattle.vs_ring_port.specs.{Contents.RingContents, declared.queue.Queue.TheVariants.{Event, Rx, Tx}}
-use Rattle.vs_driver_parts.specs.Conversations.{DriverTree, Round, after_paying, has_page, one_put, owed_bytes, pay_all, pay_and_publish, pay_slot, poll_of, poll_packets}
+use Rattle.vs_driver_parts.specs.Conversations.{DriverTree, Round, has_page, one_put, pay_all, pay_and_publish, pay_slot, poll_of, poll_packets}
 use Rattle.vs_driver_parts.specs.Conversations.{poll_puts, poll_reaps, polled, publish_and_pay, published, put_all, put_owed, put_owed_of, put_replies, put_reply, put_reply_of}
-use Rattle.vs_driver_parts.specs.{Conversations.{reap_all, stage_packet, start, take_all, take_event, take_packet}, Playing.{Plays, RingAllows}, State.DriverEntry}
+use Rattle.vs_driver_parts.specs.{Conversations.{reap_all, start, take_all, take_event, take_packet}, Playing.{Plays, RingAllows}, State.DriverEntry}
 use Rattle.vs_driver_parts.specs.{State.DriverState, declared.answers.Polled.Polled}
 use Rattle.laws_driver.specs.Honest.{end_in, ends_of_state}
 use Rattle.laws_rest.{specs.Rest.OwesNothing, proofs.{Owing.{all_owe_none, end_under, listed}, Quiet.{NoReplies, NoneAt, OwesNone, Relation, Same, Serves, Served, Sight, Steps}}}
-use Rattle.laws_rest.proofs.Quiet.{all_served, ends_any, ends_then, is_over, more, none_at, one_then, quiet_each, quiet_while, serves, some_at, still, touches_none, weaker}
+use Rattle.laws_rest.proofs.Quiet.{all_served, ends_any, ends_then, is_over, more, none_at, one_then, quiet_each, quiet_while, serves, still, touches_none, weaker}
 
 -- A stage is over early where no page is free.
 abbrev see : Round → Sight
@@ -45,9 +45,7 @@ all_replies (reply ∷ rs) s is = quiet_while see NoReplies (length rs) put_repl
 -- What a connection owes.
 owed_of : (slot : ℕ) (r : Round) (e : DriverEntry) (w : Option Owed) → entry_under r.state.table slot ≡ Some e → owes_of e.value.end ≡ w
     → AllEnds (λ (x : Round × Bool). Steps see (Same (NoneAt slot)) r x.0) (elim w [ None ↦ Done (r, false) | Some what ↦ put_owed_of what e r ])
-owed_of slot r e None at is = still (Same (NoneAt slot)) (see r) (refl, some_at slot (see r) e.value.end (rw at refl) is)
-owed_of slot r e (Some what) at is =
-    put_if (Same (NoneAt slot)) r (has_page r.state) (stage_packet (owed_bytes what e r.state) (after_paying what e r.state)) refl
+owed_of slot r e w at is = grind (arith, common_steps, still, put_if)
 
 owed_at : (slot : ℕ) (r : Round) (o : Option DriverEntry) → entry_under r.state.table slot ≡ o
     → AllEnds (λ (x : Round × Bool). Steps see (Same (NoneAt slot)) r x.0) (elim o [

@@ -34,26 +34,7 @@ turned a b = grind (arith, nat_tests)
 adds_by : (side : Side) (p : Packet) (ps : List Packet) (now : ℕ) (bytes : List ℕ) → payload_of (instance_from side now ps) ≡ bytes
     → payload_of (instance_from side now (p ∷ ps)) ≡ bytes ++ p.payload → (k : ℕ)
     → payload_of (instance_from side k (p ∷ ps)) ≡ payload_of (instance_from side k ps) ++ cond (k == now) p.payload []
-adds_by side p ps now bytes was is k = ap payload_of (with_one side k p ps) ∙ payload_with (index side p ps == k) p (instance_from side k ps) ∙ by (index side p ps == now) refl
-  where
-    held : (b : Bool) → (index side p ps == now) ≡ b → bytes ++ cond b p.payload [] ≡ bytes ++ p.payload
-    held b at =
-        ap (λ (xs : List ℕ). xs ++ cond b p.payload []) (sym was)
-        ∙ sym (payload_with b p (instance_from side now ps))
-        ∙ ap (λ (c : Bool). payload_of (cond c (p ∷ instance_from side now ps) (instance_from side now ps))) (sym at)
-        ∙ ap payload_of (sym (with_one side now p ps)) ∙ is
-
-    by : (b : Bool) → (index side p ps == now) ≡ b
-        → payload_of (instance_from side k ps) ++ cond (index side p ps == k) p.payload []
-        ≡ payload_of (instance_from side k ps) ++ cond (k == now) p.payload []
-    by true at =
-        let there : index side p ps ≡ now = grind (arith, nat_tests, at) in
-        ap (λ (n : ℕ). payload_of (instance_from side k ps) ++ cond (n == k) p.payload []) there
-        ∙ ap (λ (c : Bool). payload_of (instance_from side k ps) ++ cond c p.payload []) (turned now k)
-    by false at =
-        let none : p.payload ≡ [] = no_bytes bytes p.payload (nothing_more bytes ∙ held false at) in
-        sym (no_more (index side p ps == k) (payload_of (instance_from side k ps)) p.payload none)
-        ∙ no_more (k == now) (payload_of (instance_from side k ps)) p.payload none
+adds_by side p ps now bytes was is k = grind (arith, common_steps, with_one, payload_with, turned, no_bytes, no_more)
 
 -- The number of the present connection stays, but at a REQUEST.
 pub asked_still : (side : Side) (p : Packet) (put got : List Packet) → is_request p ≡ false → asked_by side (p ∷ put) got ≡ asked_by side put got

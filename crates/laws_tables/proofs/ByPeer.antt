@@ -8,11 +8,11 @@ use Rattle.laws_history.specs.{Again.{AllowsNow, MayPutNow, present}, Beside.{is
 use Rattle.laws_history.specs.Packets.{IsFormed, has, is_clean_rst, is_request, is_rst, told_alloc}
 use Rattle.laws_history.proofs.{BesidePairs.{sound_beside, steadied_fair, steady_gots, steady_present, steady_puts}, Fair.{BothSound, sound}, Present.fair_once, Steady.now_formed, Ties.{Later, may_put_later}}
 use Rattle.vs_page.specs.{Fair.{AllowsTo, IsFairLog, IsFairLogByPeer, IsFairTo}, Log.{Log, Role, and_then, flow_got, flow_put, history_of, side_of, whole_of}, Open.{cid_of, is_dropped}}
-use Rattle.vs_page.{specs.declared.log.LogEntry.TheVariants.{GotPacket, PutPacket}, proofs.{ByPeer.{allows_by_peer, by_peer, one_got, one_put, plain_puts}, Entries.present_is, Flows.same_is}}
+use Rattle.vs_page.{specs.declared.log.LogEntry.TheVariants.{GotPacket, PutPacket}, proofs.{ByPeer.{allows_by_peer, by_peer, one_got, one_put}, Entries.present_is, Flows.same_is}}
 use Rattle.vs_replies.specs.declared.Reply.{Reply}
 use Rattle.laws_tables.specs.{ByPeer.IsSoundByPeer, Ends.{Ends, is_new}, Heard.{IsInOrder, IsWithin, IsWithinCredit, heard_of, hears, own_port, route_of}, Matches.{IsOwed, IsReady, Matches}}
 use Rattle.laws_tables.specs.Steps.{HasEnd, owed_on, payload_on, reply_on, request_on}
-use Rattle.laws_tables.proofs.Fair.{asked_first, awaiting_by, awaiting_quiet, fair_order, heard_order, heard_puts, some_by_puts, known_kind, less_both, less_more, less_none, less_same, open_within, put_keeps_within, reply_may, reply_within, request_allowed}
+use Rattle.laws_tables.proofs.Fair.{asked_first, awaiting_by, awaiting_quiet, fair_order, heard_order, heard_puts, some_by_puts, known_kind, less_both, less_more, less_none, less_same, open_within, put_keeps_within, reply_within, request_allowed}
 use Rattle.laws_tables.proofs.{Keeps.{not_request, owed_no_request, silent_fair}, OnFlow.end_follows, Steps.{can_old, owed_flow, payload_flow, reply_flow, request_flow}}
 
 -- The buffer space that a packet got tells isn't less than before.
@@ -27,10 +27,7 @@ abbrev Rises : Packet → History → Type 0
 Rises p h = is_request p ≡ false → is_rst p ≡ false → told_alloc (gots h) ≤ p.header.buf_alloc
 
 rises_to : (host : Bool) (side : Side) (h : History) (p : Packet) → AllowsTo host side h (Got p) → Rises p h
-rises_to true side h p may other plain = ((may.goes_on other).honest plain).alloc_rises
-rises_to false side h p may other plain =
-    subst (λ n. n ≤ p.header.buf_alloc) (alloc_steady (gots h))
-    (((may.steadily (no_rst p plain)).goes_on other).honest plain).alloc_rises
+rises_to host side h p may other plain = grind (arith, common_steps, alloc_steady, no_rst)
 
 rises_got : (role : Role) (p : Packet) (log : Log) (f : Flow) → IsFairLogByPeer role (GotPacket p ∷ log) → same_flow f (flow_got role p) ≡ true
     → Rises p (history_of role f log)
@@ -68,20 +65,7 @@ sound_to false side h fair = sound_beside side h fair
 
 both_sound : (h heard : History) → BothSound (puts h) (gots h) → puts heard ≡ puts h → Later (gots heard) (gots h) → IsWithin heard
     → BothSound (puts heard) (gots heard)
-both_sound h heard is same less within =
-    let s = subst (λ ps. BothSound ps (gots h)) (sym same) is in
-    grind (
-      arith,
-      s.out.alloc,
-      s.back.fits,
-      s.back.forwarded,
-      s.back.alloc,
-      less.bytes_more,
-      less.forwarded,
-      less.alloc,
-      within.fits,
-      within.forwarded,
-    )
+both_sound h heard is same less within = grind (arith, common_steps)
 
 sound_heard : (role : Role) (first : ℕ) (f : Flow) (log : Log) → IsSoundByPeer role first log
     → let h = heard_of role first f log in BothSound (puts h) (gots h)
@@ -94,19 +78,12 @@ sound_heard role first f log s =
 -- One more packet, put or got.
 within_put : (role : Role) (first : ℕ) (p : Packet) (log : Log) → IsWithinCredit role first (flow_put role p) (PutPacket p ∷ log)
     → ((g : Flow) → IsWithinCredit role first g log) → (g : Flow) → IsWithinCredit role first g (PutPacket p ∷ log)
-within_put role first p log own all g = by (same_flow g (flow_put role p)) refl
-  where
-    by : (b : Bool) → same_flow g (flow_put role p) ≡ b → IsWithinCredit role first g (PutPacket p ∷ log)
-    by true is = subst (λ x. IsWithinCredit role first x (PutPacket p ∷ log)) (sym (same_is g (flow_put role p) is)) own
-    by false is = rw is (all g)
+within_put role first p log own all g = grind (arith, common_steps)
 
 sound_put : (role : Role) (first : ℕ) (f : Flow) (p : Packet) (log : Log) → flow_put role p ≡ f → IsSoundByPeer role first log
     → AllowsTo (is_host f) (side_of role f) (history_of role f log) (Put p) → IsWithinCredit role first f (PutPacket p ∷ log)
     → IsSoundByPeer role first (PutPacket p ∷ log)
-sound_put role first f p log is s may own = record {
-  fair = (one_put role log p).1 (s.fair, subst (λ x. AllowsTo (is_host x) (side_of role x) (history_of role x log) (Put p)) (sym is) may);
-  within = within_put role first p log (subst (λ x. IsWithinCredit role first x (PutPacket p ∷ log)) (sym is) own) s.within;
-}
+sound_put role first f p log is s may own = grind (arith, common_steps, one_put, within_put)
 
 got_within_by : (h heard : History) (p : Packet) (same dropped asks : Bool) → is_request p ≡ asks → (same ≡ true → Rises p h)
     → Later (gots heard) (gots h) → IsWithin heard → IsWithin (if same then hears dropped p heard else heard)
@@ -215,9 +192,7 @@ reply_plain role cid r = grind (arith, common_steps)
 reply_to : (role : Role) (cid : ℕ) (r : Reply) (log : Log) (host : Bool) → is_host r.flow ≡ host
     → (is_host r.flow ≡ true → IsOwed role log r)
     → AllowsTo host (side_of role r.flow) (history_of role r.flow log) (Put (reply_on role cid r))
-reply_to role cid r log true is owed = reply_may role cid r log (owed is)
-reply_to role cid r log false is owed =
-    plain_puts (side_of role r.flow) (history_of role r.flow log) (reply_on role cid r) false refl (reply_formed role cid r) (reply_plain role cid r)
+reply_to role cid r log host is owed = grind (arith, common_steps, reply_formed, reply_plain)
 
 pub replies : (role : Role) (first cid : ℕ) (r : Reply) (log : Log) → IsSoundByPeer role first log
     → (is_host r.flow ≡ true → IsOwed role log r) → IsSoundByPeer role first (PutPacket (reply_on role cid r) ∷ log)

@@ -2,7 +2,7 @@
 use Rattle.std.proofs.{lemmas.Grind.common_steps, Common.{rules, ◌≡◌, ◌≢◌, ℕ, ◌+◌, ◌≤◌, Bool, true, false, ◌||◌, if◌then◌else◌, is_some, ◌⊎◌, inl, inr, List, [], ◌∷◌, length}}
 use Rattle.std.proofs.Common.{Some, refl, sym, ap, ◌∙◌, subst, arith}
 use Rattle.vs_conn.specs.{End.{CanSend, ConnectionEnd, is_refused, owes_of, verdict_of}, Follows.{FitsMessage, Follows, IsTaken}, declared.end.{Owed.Owed, State.TheVariants.Ended}}
-use Rattle.vs_conn.proofs.{Getting.get_taken, Steps.{pay_may, room_plain, send_may, taken_of}}
+use Rattle.vs_conn.proofs.{Getting.get_taken, Steps.{pay_may, send_may, taken_of}}
 use Rattle.vs_credit.specs.Credit.{room_of}
 use Rattle.vs_flow.specs.{Flow.same_flow, declared.flow.Flow.Flow}
 use Rattle.vs_header.specs.{Kind.{kind_named, kind_number}, declared.{Header.Header, Kind.Kind}}
@@ -344,11 +344,7 @@ got_not_refused role first p e part log m has fair all =
 has_room : (side : Side) (put got : List Packet) (e : ConnectionEnd) (more : ℕ) → BothSound put got → Follows side put got e
     → e.state ≢ Ended
     → bytes got + more ≤ allowance put → more ≤ room_of e.credit
-has_room side put got e more sound_is follows alive fits =
-    let left = follows.left alive in
-    let plain = room_plain side put got e sound_is follows.fwd_cnt left in
-    let told = left.alloc_told in
-    grind (arith, plain, told, fits)
+has_room side put got e more sound_is follows alive fits = grind (arith, common_steps)
 
 overrun_by : (e : ConnectionEnd) (h : Header) → (e.state ≢ Ended → h.len ≤ room_of e.credit) → is_overrun (verdict_of e h) ≡ false
 overrun_by = search rules

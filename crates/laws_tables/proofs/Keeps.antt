@@ -23,7 +23,7 @@ use Rattle.laws_tables.proofs.Fair.{got_formed, got_in_order, got_no_overrun, go
 use Rattle.laws_tables.proofs.{Fair.{reply_within, request_allowed, send_may_on, heard_puts}, Steps.{next_free, next_owed, owed_flow, payload_flow, reply_flow, reply_stale}}
 use Rattle.laws_tables.proofs.{Steps.{request_flow, then_got, cid_heard, used_by_end, used_by_order, used_by_reply}, Frame.{IsAlone, IsUsed, flows_step, heard_dropped}}
 use Rattle.laws_tables.proofs.{Frame.{heard_ended, heard_got, left_alone, own_or_other, phase_dropped, still_flows}, Tables.{IsOnce, driver_begun, end_begun, only_end, once_rest}}
-use Rattle.laws_tables.proofs.{Tables.{own_none, reset_closed}, Owing.{IsDue, begun_got, kind_got_stays, owed_of, all_put, all_got, all_same, all_append}, Opening.got_closes}
+use Rattle.laws_tables.proofs.{Tables.{own_none, reset_closed}, Owing.{IsDue, owed_of, all_put, all_got, all_same, all_append}, Opening.got_closes}
 use Rattle.laws_tables.proofs.Opening.{got_none, got_opens, got_stays, rst_asks_none, rst_of}
 use Rattle.vs_conn.specs.declared.end.Owed.TheVariants as owed
 use Rattle.laws_tables.proofs.Steps as steps
@@ -177,16 +177,7 @@ keeps_flow role first f part log used own clean m =
 
 -- Where an asker put nothing on the present connection, nothing passed.
 has_asked : (h : History) (x : Entry) → IsFair Asker (x ∷ h) → has is_request (puts (x ∷ h)) ≡ true
-has_asked h (Put p) fair = by_put (is_request p) refl
-  where
-    by_put : (b : Bool) → is_request p ≡ b → has is_request (puts (Put p ∷ h)) ≡ true
-    by_put true is = rw is refl
-    by_put false is = rw is (fair.0.begun is)
-has_asked h (Got p) fair = by_got (is_request p) refl
-  where
-    by_got : (b : Bool) → is_request p ≡ b → has is_request (puts (Got p ∷ h)) ≡ true
-    by_got true is = let t = fair.0.timely in absurd (grind (arith, common_steps, is, t))
-    by_got false is = fair.0.begun is
+has_asked h x fair = grind (arith, common_steps, puts)
 
 pub silent_fair : (h : History) → [] ≡ puts h → IsFair Asker h → h ≡ []
 silent_fair [] none fair = refl
@@ -483,14 +474,7 @@ due_quiet side h p true is fair may plain =
 due_new : (side : Side) (h : History) (p : Packet) (b : Bool) → is_request p ≡ b → IsFair side h → AllowsNow side h (Got p)
     → is_rst p ≡ false
     → IsDue side (and_then (Got p) h) p.header.kind
-due_new side h p true is fair may plain = subst (λ x. IsDue side x p.header.kind) (sym (steps.new_got p h is)) (due_request side h p is may)
-due_new side h p false is fair may plain =
-    let m = may.goes_on is in
-    subst (λ x. IsDue side x p.header.kind) (sym (then_got p h is)) (record {
-      begun = begun_got side h p (sym (begun_peer side h) ∙ m.begun is);
-      kind_is = m.kind is ∙ ap asked_kind (asker_peer side h) ∙ sym (kind_got_stays side h p is);
-      quiet = due_quiet side h p (has is_clean_rst (puts h)) refl fair m plain;
-    })
+due_new side h p b is fair may plain = grind (arith, common_steps, due_request, begun_peer, due_quiet, puts)
 
 due_refused : (role : Role) (p : Packet) (log : Log) → is_rst p ≡ false → IsFairLog role (GotPacket p ∷ log)
     → IsOwed role (GotPacket p ∷ log) (record { flow = flow_got role p; kind = answer_kind p.header.kind })

@@ -55,14 +55,7 @@ module _ (role : Role) (f : Flow) (w : Seat) (shut : IsShut f w) where
       absurd (cannot e (length payload) (grind (arith, common_steps, none)) can)
 
   puts_none : (step : Step) → AsksOther role f step w → put_on role f (after role step w).log ≡ put_on role f w.log
-  puts_none (Opens g kind) other = put_none role f (request_on role w.part.cid g kind) w.log refl
-  puts_none (Sends g e payload) named =
-      let other = ap (same_flow f) (payload_flow role w.part.cid g e payload) ∙ sends_other g e payload named.0 named.1 (same_flow f g) refl in
-      ap (λ (b : Bool). payload_of (puts (cond b (Put (payload_on role w.part.cid g e payload) ∷ whole_of role f w.log) (whole_of role f w.log)))) other
-  puts_none (Pays g e what) named = put_none role f (owed_on role w.part.cid g e what) w.log refl
-  puts_none (Replies r rest) other = put_none role f (reply_on role w.part.cid r) w.log refl
-  puts_none (Takes p answer) other = put_got role f p w.log
-  puts_none step other = refl
+  puts_none step other = grind (arith, common_steps, put_none, sends_other, puts, put_got)
 
   pub step_shut : (step : Step) → AsksOther role f step w → StillShut role f w (after role step w)
   step_shut step other = record {

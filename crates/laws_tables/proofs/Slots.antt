@@ -159,11 +159,7 @@ module _ {T : Type 0} where
 
   found_at : (test : Entry T → Bool) (ys : List (Entry T)) (y x : Entry T) (b : Bool) → test y ≡ b → find test (y ∷ ys) ≡ Some x
       → (find test ys ≡ Some x → Contains ys x × (test x ≡ true)) → Contains (y ∷ ys) x × (test x ≡ true)
-  found_at test ys y x true passes is rest =
-      let e : y ≡ x = grind (arith, common_steps) in ((0, omega arith, e), subst (λ z. test z ≡ true) e passes)
-  found_at test ys y x false fails is rest =
-      let e : find test ys ≡ Some x = grind (arith, common_steps) in
-      let r = rest e in (contains_later y x ys r.0, r.1)
+  found_at test ys y x b passes is rest = grind (arith, common_steps, contains_later)
 
   -- An entry that is found is there, and passes the test.
   pub found_by : (test : Entry T → Bool) (xs : List (Entry T)) (x : Entry T) → find test xs ≡ Some x → Contains xs x × (test x ≡ true)

@@ -1,6 +1,5 @@
 -- Where a log that is fair by the peer leaves a flow open at the end that asks, no marked RST was heard since its REQUEST.
 use Rattle.std.proofs.{Common.{◌≡◌, ℕ, ◌==◌, Bool, true, false, if◌then◌else◌, Some, List, [], ◌∷◌, refl, sym, ap, ◌∙◌, subst, arith}, lemmas.Grind.common_steps}
-use Rattle.std.proofs.lemmas.Bool.{eq-eqb}
 use Rattle.vs_conn.specs.End.{ConnectionEnd}
 use Rattle.vs_flow.specs.{Flow.{is_host, same_flow}, declared.flow.Flow.Flow}
 use Rattle.laws_history.specs.{Beside.{is_plain_rst, steady}, History.{Answerer, Asker, Got, History, Put, gots, is_begun, puts}, declared.packet.Packet.Packet}
@@ -9,7 +8,7 @@ use Rattle.vs_page.specs.{Fair.{AllowsTo, IsFairLogByPeer}, Log.{Log, Role, and_
 use Rattle.vs_page.specs.{Open.{is_clean_end, is_dropped, open_kind, phase_got, phase_heard, phase_of, phase_put, phase_reset}, declared.log.LogEntry.TheVariants.{GotEvent, GotPacket, Mark, PutEvent, PutPacket}}
 use Rattle.vs_page.proofs.{ByPeer.{one_got, one_put}, Flows.same_is, Phases.kind_stays}
 use Rattle.laws_tables.specs.{Ends.{Ends, is_new}, Heard.{IsInOrder, heard_of, hears}, Matches.Matches, Steps.HasEnd}
-use Rattle.laws_tables.proofs.{ByPeer.request_steady, Fair.{awaiting_by, heard_puts, request_side, some_by_puts}, OnFlow.end_follows}
+use Rattle.laws_tables.proofs.{ByPeer.request_steady, Fair.{awaiting_by, heard_puts, some_by_puts}, OnFlow.end_follows}
 
 abbrev Stands : Phase → History → Type 0
 Stands Unused h = Unit {0}
@@ -26,30 +25,15 @@ put_goes p h Clean other s = tt
 
 put_by : (p : Packet) (h : History) (ph : Phase) (asks rst : Bool) → is_request p ≡ asks → is_rst p ≡ rst → Stands ph h
     → Stands (phase_put p ph) (and_then (Put p) h)
-put_by p h ph true rst is r s = rw is (refl, rw is refl)
-put_by p h ph false true is r s = rw is (rw r tt)
-put_by p h ph false false is r s = rw is (rw r (put_goes p h ph is s))
+put_by p h ph asks rst is r s = grind (arith, common_steps, put_goes)
 
 -- One that is got, no REQUEST: where it's a marked RST it has the type of the connection.
 got_goes : (p : Packet) (h : History) (ph : Phase) → is_clean_rst p ≡ false → Stands ph h → Stands ph (Got p ∷ h)
-got_goes p h Unused plain s = tt
-got_goes p h (Open kind) plain s = (rw plain s.0, s.1)
-got_goes p h Over plain s = tt
-got_goes p h Clean plain s = tt
+got_goes p h ph plain s = grind (arith, common_steps)
 
 ends : (clean : Bool) (p : Packet) (h : History) (ph : Phase) (mark same : Bool) → is_clean_rst p ≡ mark
     → (is_clean_rst p ≡ true → p.header.kind ≡ asked_kind (puts h)) → Stands ph h → Stands (ended_by clean p ph) (Got p ∷ h)
-ends clean p h Unused mark same m typed s = tt
-ends true p h (Open kind) true same m typed s = rw (eq-eqb p.header.kind kind (typed m ∙ sym s.1)) tt
-ends false p h (Open kind) true same m typed s = rw (eq-eqb p.header.kind kind (typed m ∙ sym s.1)) tt
-ends clean p h (Open kind) false same m typed s = by clean (p.header.kind == kind) refl
-  where
-    by : (c b : Bool) → (p.header.kind == kind) ≡ b → Stands (if b then (if c then Clean else Over) else Open kind) (Got p ∷ h)
-    by true true is = tt
-    by false true is = tt
-    by c false is = (rw m s.0, s.1)
-ends clean p h Over mark same m typed s = tt
-ends clean p h Clean mark same m typed s = tt
+ends clean p h ph mark same m typed s = grind (arith, common_steps)
 
 no_mark : (p : Packet) → is_rst p ≡ false → is_clean_rst p ≡ false
 no_mark = grind (arith, common_steps)
@@ -91,21 +75,10 @@ record Comes (p : Packet) (h : History) : Type 0 where
   typed : is_clean_rst p ≡ true → p.header.kind ≡ asked_kind (puts h)
 
 never_asks : (p : Packet) → (is_request p ≡ true → Asker ≡ Answerer) → is_request p ≡ false
-never_asks p never = by (is_request p) refl
-  where
-    by : (b : Bool) → is_request p ≡ b → b ≡ false
-    by true is = let bad = never is in absurd cc
-    by false is = refl
+never_asks p never = grind (arith, common_steps)
 
 comes_to : (host : Bool) (h : History) (p : Packet) → AllowsTo host Asker h (Got p) → Comes p h
-comes_to true h p may = record {
-  other = never_asks p (λ is. request_side Asker p is (may.opens is).1);
-  typed = λ is. (may.goes_on (mark_steady p is).1).kind (mark_steady p is).1;
-}
-comes_to false h p may = record {
-  other = never_asks p (λ is. request_side Asker p is ((may.steadily (request_stays p is)).opens is).1);
-  typed = λ is. ((may.steadily (mark_steady p is).0).goes_on (mark_steady p is).1).kind (mark_steady p is).1 ∙ kind_steady (puts h);
-}
+comes_to host h p may = grind (arith, common_steps, never_asks, mark_steady, request_stays, kind_steady, puts)
 
 got_on : (role : Role) (first : ℕ) (f : Flow) (p : Packet) (log : Log) (b : Bool) → same_flow f (flow_got role p) ≡ b
     → IsFairLogByPeer role (GotPacket p ∷ log) → side_of role f ≡ Asker
@@ -125,9 +98,7 @@ got_on role first f p log true same fair asker s =
 put_on : (role : Role) (first : ℕ) (f : Flow) (p : Packet) (log : Log) (b : Bool) → same_flow f (flow_put role p) ≡ b
     → Stands (phase_of role first f log) (heard_of role first f log)
     → Stands (phase_of role first f (PutPacket p ∷ log)) (heard_of role first f (PutPacket p ∷ log))
-put_on role first f p log false same s = rw same s
-put_on role first f p log true same s =
-    rw same (put_by p (heard_of role first f log) (phase_of role first f log) (is_request p) (is_rst p) refl refl s)
+put_on role first f p log b same s = grind (arith, common_steps, put_by)
 
 reset_on : (ph : Phase) (h : History) → Stands ph h → Stands (phase_reset ph) h
 reset_on = grind (arith, common_steps)
@@ -146,10 +117,7 @@ stands role first f (Mark cid ∷ log) fair asker =
     reset_on (phase_of role first f log) (heard_of role first f log) (stands role first f log fair asker)
 
 unmarked : (ph : Phase) (h : History) (kind : ℕ) → open_kind ph ≡ Some kind → Stands ph h → has is_clean_rst (gots h) ≡ false
-unmarked Unused h kind is s = absurd cc
-unmarked (Open k) h kind is s = s.0
-unmarked Over h kind is s = absurd cc
-unmarked Clean h kind is s = absurd cc
+unmarked ph h kind is s = grind (arith, common_steps)
 
 -- So a packet of a connection that has begun comes in order, where it's no REQUEST.
 pub known_order : (role : Role) (first : ℕ) (f : Flow) (p : Packet) (e : ConnectionEnd) (part : Ends) (log : Log)

@@ -32,9 +32,7 @@ pub forwards : (c : Credit) (n : ℕ) → Counts c → n ≤ unread_of c → Mov
 forwards c n k le = grind (arith, common_steps)
 
 takes : (c : Credit) (n : ℕ) → Counts c → n ≤ room_of c → Moves n 0 c (with_taken c n)
-takes c n k room =
-    let all = more c.rx_cnt c.fwd_cnt n c.alloc k.rx k.fwd k.alloc room k.within in
-    record { counts = record { within = omega (arith, all, room, k.within); alloc = k.alloc; rx = omega arith; fwd = k.fwd }; unread = omega (arith, all) }
+takes c n k room = grind (arith, common_steps, more)
 
 discards : (c : Credit) (n : ℕ) → Counts c → Moves 0 0 c (with_forwarded (with_taken c n) n)
 discards c n k = grind (arith, common_steps)
@@ -48,14 +46,7 @@ message o e h k = grind (arith, common_steps)
 
 hears_by : (v : Verdict) (e : ConnectionEnd) (h : Header) → verdict_of e h ≡ v → Counts e.credit
     → Moves (delivered v h.len) 0 e.credit (after_op (op_named h.op) e h v).credit
-hears_by verdict.Deliver e h is k =
-    let t = takes e.credit h.len k (delivers_room e h is) in
-    record { counts = record { within = t.counts.within; alloc = k.alloc; rx = t.counts.rx; fwd = k.fwd }; unread = t.unread }
-hears_by verdict.Discard e h is k =
-    let t = discards e.credit h.len k in
-    record { counts = record { within = t.counts.within; alloc = k.alloc; rx = t.counts.rx; fwd = t.counts.fwd }; unread = t.unread }
-hears_by verdict.Peer e h is k = message (op_named h.op) e h k
-hears_by _ e h is k = still e.credit _ k refl refl refl
+hears_by v e h is k = grind (arith, common_steps, takes, delivers_room, discards, message)
 
 pub hears : (e : ConnectionEnd) (h : Header) → Counts e.credit → Moves (delivered (verdict_of e h) h.len) 0 e.credit (end_after e h).credit
 hears e h = hears_by (verdict_of e h) e h refl

@@ -3,7 +3,7 @@ use Rattle.std.proofs.Common.{rules, ◌≡◌, ℕ, ◌==◌, Bool, true, false
 use Rattle.std.proofs.lemmas.{Grind.common_steps, Bool.Decides.nat_tests}
 use Rattle.laws_tables.specs.Both.{Asks, Both, Decides, Happening, IsSound, MakesReset, MayHappen, MayRun, Opens, Pays, PutsEvent, Replies, Seat, Sends, Step, Takes, TakesEvent}
 use Rattle.laws_tables.specs.{Both.{TakesReset, after_packet, answered, decided, happens, run, start}, Heard.{IsInOrder, heard_of, is_fresh}, Steps.HasEnd}
-use Rattle.laws_tables.specs.{Steps.{is_kept, left, owed_on, paid, payload_on, reply_on, request_on, with_clean, with_end}, Ends.{Ends, ends_of}, Matches.MatchesFlows}
+use Rattle.laws_tables.specs.{Steps.{left, owed_on, paid, payload_on, reply_on, request_on, with_clean, with_end}, Ends.{Ends, ends_of}, Matches.MatchesFlows}
 use Rattle.laws_tables.proofs.{Entries.{added_other, replaced_other, without_other}, Both.{next_is_fair, run_keeps, start_sound, step_keeps}, Fair.{fair_now, fair_order, got_fair}}
 use Rattle.laws_tables.proofs.{Fair.{got_goes_on, got_one, heard_less, heard_puts, own_got_fair}, Frame.{own_or_other, same_of}, Keeps.{asker_peer, kind_by}, Steps.cid_heard}
 use Rattle.laws_tables.proofs.Tables.{only_end}
@@ -161,9 +161,7 @@ unknown_other = grind (arith, answered_other, common_steps)
 
 packet_other : (ends : List ConnectionEnd) (f g : Flow) (p : Packet) (answer : Bool) (part : Ends) → same_flow g f ≡ false
     → ends_of g (after_packet Driver ends p f answer part).entries ≡ ends_of g part.entries
-packet_other [] f g p answer part other = unknown_other f g p answer part (is_rst p) other
-packet_other (e ∷ more) f g p answer part other =
-    taken_other f g _ part (is_kept Driver f e p) (is_rst p && is_of e.kind p.header) other
+packet_other ends f g p answer part other = grind (arith, common_steps, unknown_other, taken_other)
 
 packet_cid : (ends : List ConnectionEnd) (f : Flow) (p : Packet) (answer : Bool) (part : Ends)
     → (after_packet Driver ends p f answer part).cid ≡ part.cid

@@ -9,7 +9,7 @@ use Rattle.vs_device_parts.specs.{Connections.{after_shut, after_written, cut_of
 use Rattle.laws_device.proofs.Carried.Gives.{drop_both, first_of, forwards_asked, forwards_gives, accepted_other, accepts_asked, accepts_response, answered_host, comes_behind}
 use Rattle.laws_device.proofs.Carried.Gives.{delivered_other, delivers_gives, gives_delivered, goes_host, hears_gives, kept_empty, response_empty, shut_gives, shuts_asked}
 use Rattle.laws_device.proofs.Carried.{Gives.{unanswered_got, forwards_old, shuts_old, stays_old}, HostCalls.{read_host, write_host, closed_left, same_ends, same_host}}
-use Rattle.laws_device.proofs.Carried.{Streamed.{join_of, kept_streamed, left_streamed, StaysStill, passed_streamed, same_connection_of, same_streamed}, Opens.none_apart}
+use Rattle.laws_device.proofs.Carried.{Streamed.{join_of, kept_streamed, left_streamed, StaysStill, passed_streamed, same_streamed}, Opens.none_apart}
 use Rattle.laws_device.proofs.Carried.{Hosts.{counts_kept, counts_still, look_kept, unseen}, Counted.{Lacks, comes_on, counted_asks, counted_got, counted_put, fewer_served, kept_less, lost_serves, none_lacks}}
 use Rattle.laws_device.{proofs.Carried.Counted.{number_put_elsewhere, put_still, request_put}, specs.Carried.Streamed.{client_waits, AreCounted, CountMatches}}
 use Rattle.vs_limits.specs.declared.TheConstants.{DEVICE_CONNECTIONS}
@@ -108,9 +108,7 @@ put_empty c log port t hands p none plain may x = same_streamed (look c) (look c
 -- A REQUEST was put or got on a connection before and after a packet that is none: it keeps its number.
 both_old : (log new : Log) (e : DeviceEntry) (v : DeviceConnection) → is_new v.end ≡ false → is_new e.value.end ≡ false
     → number_of Device e.flow log ≡ number_of Device e.flow new → connection_of (record e { value = v }) new ≡ connection_of e log
-both_old log new e v now old number =
-    ap (λ (b : Bool). let c : Connection = record { flow = e.flow; number = cond b (number_of Device e.flow new + 1) (number_of Device e.flow new) } in c) (now ∙ sym old)
-    ∙ sym (same_connection_of log new e number)
+both_old log new e v now old number = grind (arith, common_steps)
 
 -- Such a connection is the present one of its flow.
 present_old : (log : Log) (e : DeviceEntry) → is_new e.value.end ≡ false → current Device e.flow log ≡ connection_of e log

@@ -4,7 +4,7 @@ use Rattle.std.proofs.Common.{◌∙◌, subst, arith}
 use Rattle.vs_conn.specs.{End.ConnectionEnd, Follows.Follows, declared.end.State.TheVariants.Ended}
 use Rattle.vs_flow.specs.declared.flow.Flow.{Flow}
 use Rattle.vs_limits.specs.declared.TheConstants.{HOST_CID}
-use Rattle.laws_history.specs.{Again.present, History.{Answerer, Asker, Got, History, Side, gots, puts}, Packets.{has, is_clean_rst, is_request, is_rst, is_rw}}
+use Rattle.laws_history.specs.{Again.present, History.{Got, History, Side, gots, puts}, Packets.{has, is_clean_rst, is_request, is_rst, is_rw}}
 use Rattle.laws_history.specs.declared.packet.Packet.{Packet}
 use Rattle.vs_page.specs.{Open.{cid_of, is_dropped}, declared.log.LogEntry.TheVariants.GotPacket, Log.{Device, Driver, IsNextPacket, Log, flow_got, history_of, side_of, whole_of}}
 use Rattle.vs_page.proofs.{Entries.{got_on, on_flow, present_is}, Flows.same_self}
@@ -22,9 +22,7 @@ gives_left : (e : ConnectionEnd) → gives e ≡ true → e.state ≢ Ended
 gives_left e is ended = grind (arith, common_steps, is, ended)
 
 unheard : (side : Side) (put : List Packet) (e : ConnectionEnd) → Follows side put [] e → gives e ≡ true → ⊥
-unheard Answerer put e follows given = let begun = follows.begun in absurd cc
-unheard Asker put e follows given =
-    let state = (follows.left (gives_left e given)).state in grind (arith, common_steps, given, state)
+unheard side put e follows given = grind (arith, common_steps, gives_left)
 
 payload_no_rst : (p : Packet) → is_rw p ≡ true → is_rst p ≡ false
 payload_no_rst p is = grind (arith, nat_tests, common_steps, is)

@@ -343,9 +343,7 @@ client_host c log port t hands x =
 accepted_place : (b : Bool) (o : Option ℕ) (id : ℕ)
     → cond b accepted.Failed (option_map_or accepted.Stream (option_map (λ (place : ℕ). place + 1) o) accepted.None) ≡ accepted.Stream id
     → (place : ℕ) × (o ≡ Some place) × (place + 1 ≡ id)
-accepted_place true o id is = absurd cc
-accepted_place false None id is = absurd cc
-accepted_place false (Some place) id is = (place, refl, cc)
+accepted_place b o id is = grind (arith, common_steps)
 
 oldest_first : (id : ℕ) (c : HostContents) → accept_answer c ≡ accepted.Stream id → (j : ℕ) (u : Seen) → look c j ≡ Some u → u.waiting ≡ true → j ≢ id
     → id < j

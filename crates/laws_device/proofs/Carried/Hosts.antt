@@ -192,9 +192,7 @@ number_get (x ∷ xs) j k is = by (x == j) refl (sym (number_cons x xs j) ∙ is
   where
     after : (n k : ℕ) → number_in xs j ≡ n → next_number n ≡ suc k → ((n : ℕ) → number_in xs j ≡ suc n → slice_get xs n ≡ Some j)
         → slice_get (x ∷ xs) k ≡ Some j
-    after zero k at is rest = absurd cc
-    after (suc n) zero at is rest = absurd cc
-    after (suc n) (suc k) at is rest = let same : n ≡ k = cc in rest k (at ∙ ap suc same)
+    after n k at is rest = grind (arith, common_steps)
 
     first : (k : ℕ) → 1 ≡ suc k → (x == j) ≡ true → slice_get (x ∷ xs) k ≡ Some j
     first zero is same = let here : x ≡ j = grind (arith, nat_tests, same) in ap (λ (y : ℕ). Some y) here
@@ -267,11 +265,7 @@ module _ (c d : HostContents) (id : ℕ) (f : Flow) (list : d.labelled ≡ c.lab
       by false = ap length (append-nil (labelled_with g c))
 
   number_other : (g : Flow) (j : ℕ) → j ≢ id → number_in (labelled_with g d) j ≡ number_in (labelled_with g c) j
-  number_other g j other = ap (λ (ids : List ℕ). number_in ids j) (labelled_then g) ∙ by (same_flow g f)
-    where
-      by : (b : Bool) → number_in (labelled_with g c ++ cond b (id ∷ []) []) j ≡ number_in (labelled_with g c) j
-      by true = number_push (labelled_with g c) id j other
-      by false = ap (λ (ids : List ℕ). number_in ids j) (append-nil (labelled_with g c))
+  number_other g j other = grind (arith, common_steps, labelled_then, number_push)
 
   number_here : number_in (labelled_with f d) id ≡ count_in c f + 1
   number_here = ap (λ (ids : List ℕ). number_in ids id) (labelled_then f)

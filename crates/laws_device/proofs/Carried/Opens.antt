@@ -21,7 +21,7 @@ use Rattle.laws_device.specs.Carried.Streamed.{Serving, heard_at, serves, AreCou
 use Rattle.laws_device.specs.Carried.Streamed.{Ports, Seen, connection_of, count_in, line_for, look, reading}
 use Rattle.laws_device.{specs.Carried.Streamed.{seen, seen_as}, proofs.Carried.Hosts.{changed_seen, counts_still, counts_then, here_then, new_there, none_there, others_seen}}
 use Rattle.laws_device.proofs.Carried.{Hosts.{others_then, others_there, there}, HostCalls.{closed_host, shut_last, some_seen}, Counted.{IsAsked, counted_on, fewer_served, kept_less, slot_served}}
-use Rattle.laws_device.proofs.Carried.{Counted.{number_elsewhere, request_asks}, Streamed.{forgets, is_or_not, not_none, older_back, one_streamed, opened_streamed}}
+use Rattle.laws_device.proofs.Carried.{Counted.{number_elsewhere, request_asks}, Streamed.{forgets, not_none, older_back, one_streamed, opened_streamed}}
 use Rattle.laws_device.proofs.Carried.{Streamed.{recounted, remembers, unfresh}, Hands.{has_with, has_without, with_all, with_apart, without_all}}
 use Rattle.laws_device.proofs.{Carried.Hands.{without_none, without_pairs}, Clean.{port_below, port_rises, removed_among, removed_own}}
 use Rattle.vs_header.specs.declared.Kind.TheVariants as kind
@@ -169,9 +169,7 @@ module _ (c : HostContents) (log : Log) (port : Ports) (t : Table DeviceConnecti
 
   -- Each of the streams was one of those before.
   was_shaken : (j : ℕ) (u : Seen) → look read_on j ≡ Some u → IsShaking u → (v : Seen) × (look c j ≡ Some v) × IsShaking v
-  was_shaken j u seen_now busy = is_or_not j id ((v : Seen) × (look c j ≡ Some v) × IsShaking v)
-      (λ place. (reading h.line, ap (look c) place ∙ hand.there, record { client = refl; accepted = refl; free = refl; still = refl }))
-      (λ other. (u, others_now j other ∙ seen_now, busy))
+  was_shaken j u seen_now busy = grind (arith, common_steps, others_now)
 
   has_hand : AreShaken (look c) hands → (j : ℕ) (u : Seen) → look read_on j ≡ Some u → IsShaking u → HasHand hands j
   has_hand shaken j u seen_now busy = let v = was_shaken j u seen_now busy in shaken.hand j v.0 v.1 v.2

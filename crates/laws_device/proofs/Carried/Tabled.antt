@@ -1,6 +1,6 @@
 -- The streams of a table's connections, as one of these changes, leaves or comes.
 use Rattle.std.proofs.lemmas.Grind.{common_steps}
-use Rattle.std.proofs.Common.{◌≡◌, ◌≢◌, ℕ, ◌==◌, Bool, true, false, cond, Contains, Option, Some, None, refl, sym, ap, ◌∙◌, arith}
+use Rattle.std.proofs.Common.{◌≡◌, ◌≢◌, ℕ, ◌==◌, Bool, true, false, cond, Contains, Option, Some, None, ap, ◌∙◌, arith}
 use Rattle.std.{proofs.{lemmas.Bool.Decides.nat_tests}, specs.Option.{option_map, option_or}}
 use Rattle.vs_device_parts.specs.State.{DeviceConnection, DeviceEntry}
 use Rattle.vs_flow.specs.{Table.{IsTable, Table, entry_under, value_under, with_entry, with_value, without, next_entry}, declared.flow.Flow.Flow}
@@ -14,17 +14,7 @@ module _ (t : Table DeviceConnection) (sound : IsTable t) (e : DeviceEntry) (is 
 
   -- Another stream is that of another connection.
   other_slot : (j id : ℕ) → stream_under t j ≡ Some id → id ≢ e.value.stream → (j == e.slot) ≡ false
-  other_slot j id at other = by (j == e.slot) refl
-    where
-      never : (b : Bool) → cond b None (Some e.value.stream) ≡ Some id → ⊥
-      never true none = absurd cc
-      never false one = other cc
-
-      by : (b : Bool) → (j == e.slot) ≡ b → b ≡ false
-      by false is = refl
-      by true is =
-          let same : j ≡ e.slot = grind (arith, nat_tests, is) in
-          absurd (never e.value.closed (sym (ap (stream_under t) same ∙ ap joined_in value_here) ∙ at))
+  other_slot j id at other = grind (arith, common_steps, value_here)
 
   pub stream_other : (c : DeviceConnection) (j id : ℕ) → stream_under t j ≡ Some id → id ≢ e.value.stream
       → stream_under (with_value t e.slot c) j ≡ Some id

@@ -1,23 +1,23 @@
 -- Where a stage ends for want of a page: the last load showed none that isn't taken.
 use Rattle.std.proofs.Common.{arith}
 use Rattle.std.proofs.lemmas.Grind.{common_steps}
-use Rattle.std.proofs.Common.{◌≡◌, ◌≢◌, ◌+◌, ◌-◌, ◌==◌, ℕ, nat_lt, nat_le, Bool, true, false, not, cond, List, [], ◌∷◌, length, Option, Some, None, Result, Err, refl}
+use Rattle.std.proofs.Common.{◌≡◌, ◌≢◌, ◌+◌, ◌-◌, ◌==◌, ℕ, nat_le, Bool, true, false, not, cond, List, [], ◌∷◌, length, Option, Some, None, Result, Err, refl}
 use Rattle.std.proofs.Common.{sym, ap, subst, ◌∙◌}
 use Rattle.vs_conn.specs.{Headers.{owed_header}, End.owes_of, declared.end.Owed.Owed}
 use Rattle.vs_contents.{specs.{CallTree.{Ask, Done, bind, for_each, while_up_to}, Contents.Relates}, proofs.Leads.{leads_bind, leads_split}}
 use Rattle.vs_credit.specs.Credit.{free_of}
 use Rattle.vs_flow.specs.Table.{entry_under, slots}
-use Rattle.vs_header.specs.{declared.{Header.Header, TheConstants.HEADER_LEN}, Packet.{header_of}}
+use Rattle.vs_header.specs.{declared.{Header.Header}, Packet.{header_of}}
 use Rattle.vs_outside.specs.declared.host_net.StreamRead.{StreamRead}
 use Rattle.vs_replies.specs.declared.Reply.{Reply}
 use Rattle.vs_ring_port.specs.{Contents.{RingContents, Take}, Known.{Known, StopsAt}, declared.queue.Queue.{TheVariants.{Rx, Tx}, Queue}}
 use Rattle.vs_ring_port.{specs.declared.{device_ring.{Chain.Chain, Next.Next}, failure.Failure.Failure}, proofs.{Stopping.{NotFewer, at_first}}}
 use Rattle.vs_ring_port.proofs.Stopping.{stops_by}
 use Rattle.vs_limits.specs.declared.TheConstants.{DEVICE_REPLIES, OWED_MAX}
-use Rattle.vs_device_parts.specs.Receiving.{Filling, after_paying, fill_rx_of, filled_of, hold, holding, may_read, put_on, put_owed, put_packet, put_reply, put_reply_of}
-use Rattle.vs_device_parts.specs.{Receiving.{read_answered, read_room, read_stream, read_with_chain, reply_header, round_from, serve_slot, written}, Calls.{Allows, Call}}
-use Rattle.vs_device_parts.specs.{Calls.{DeviceTree, ReadStream, Ring, Situation}, Connections.{route_to_guest, stream_closed}, Transmitting.on_header}
-use Rattle.vs_device_parts.specs.{Transmitting.{on_next, on_packet, take_tx_of}, declared.answers.{Filled.Filled, Taken.Taken}, State.{DeviceConnection, DeviceEntry, DeviceState}}
+use Rattle.vs_device_parts.specs.Receiving.{Filling, after_paying, fill_rx_of, filled_of, hold, holding, put_on, put_owed, put_packet, put_reply, put_reply_of}
+use Rattle.vs_device_parts.specs.{Receiving.{read_answered, read_stream, read_with_chain, round_from, serve_slot, written}, Calls.{Allows, Call}}
+use Rattle.vs_device_parts.specs.{Calls.{DeviceTree, Ring, Situation}, Connections.{route_to_guest}, Transmitting.on_header}
+use Rattle.vs_device_parts.specs.{Transmitting.{on_next, take_tx_of}, declared.answers.{Filled.Filled, Taken.Taken}, State.{DeviceConnection, DeviceEntry, DeviceState}}
 use Rattle.vs_device_parts.specs.{Steps.filling, Streams.{closing, leaving}, Playing.Runs}
 use Rattle.laws_device.{specs.Named.Waiting.filling_of, proofs.{Named.Keeping.{Keeps, asking, keeps_each, keeps_end, keeps_then}, Walk.Keeping.{keeps_if, keeps_some}}}
 use Rattle.laws_device.proofs.Walk.Keeping as walked
@@ -65,11 +65,7 @@ module _ (a : Option Known) where
   over_ends rs rs' q d over ends = (ends.0, ends.1, λ on. absurd cc)
 
   step_of : (rs rs' : List Reply) (q : Filling) (d : Situation) → Ends rs q d → Steps rs rs' (q, not q.over) d
-  step_of rs rs' q d ends = by q.over refl
-    where
-      by : (b : Bool) → q.over ≡ b → Steps rs rs' (q, not b) d
-      by true over = over_ends rs rs' q d over ends
-      by false on = (on, ends)
+  step_of rs rs' q d ends = grind (arith, common_steps, over_ends)
 
   -- A chain is held, or there is none, and the stage is over.
   abbrev HeldWith : List Reply → Filling → Situation → Option Chain → Type 0
@@ -84,12 +80,7 @@ module _ (a : Option Known) where
   Held rs q d = HeldWith rs q d q.state.chain
 
   keeps_hold : (rs : List Reply) (r : Filling) (c : Situation) → Goes rs r c → Keeps CanAny Allows (Held rs) (hold r) c
-  keeps_hold rs r c goes = by r.state.chain refl
-    where
-      by : (o : Option Chain) → r.state.chain ≡ o
-          → Keeps CanAny Allows (Held rs) (elim o [ Some chain ↦ Done r | None ↦ Ask (Ring (Take Rx)) (λ answer. Done (holding answer r)) ]) c
-      by (Some chain) is = subst (HeldWith rs r c) (sym is) goes
-      by None is = (tt, λ answer d allowed. held_by answer rs r c d is allowed goes)
+  keeps_hold rs r c goes = grind (arith, common_steps, held_by)
 
   -- A packet is written.
   keeps_written : (chain : Chain) (h : Header) (payload : List ℕ) (c : Situation) → Grown Rx a c
@@ -98,10 +89,7 @@ module _ (a : Option Known) where
 
   keeps_put_on : (rs : List Reply) (chain : Chain) (h : Header) (payload : List ℕ) (r : Filling) (c : Situation) → Goes rs r c
       → Keeps CanAny Allows (Goes rs) (put_on chain h payload r) c
-  keeps_put_on rs chain h payload r c goes =
-      keeps_then CanAny Allows (Goes rs) (λ u d. Grown Rx a d) (written chain h payload)
-      (λ _. Done (record r { state = record r.state { chain = None }; put = r.put + 1 })) c (keeps_written chain h payload c goes.1.0)
-      (λ u d grown. going rs (record r { state = record r.state { chain = None }; put = r.put + 1 }) d goes.0 grown (goes.1.2 goes.0))
+  keeps_put_on rs chain h payload r c goes = grind (arith, common_steps, keeps_then, written, keeps_written, going)
 
   -- Calls on the host in between, after which these replies are owed.
   abbrev pub Leaves : List Reply → DeviceState → Situation → Type 0
@@ -135,12 +123,7 @@ module _ (a : Option Known) where
   -- Owed replies, oldest first.
   keeps_put_reply : (reply : Reply) (rs : List Reply) (r : Filling) (c : Situation) → Goes (reply ∷ rs) r c
       → Keeps CanAny Allows (Steps rs []) (put_reply_of (reply ∷ rs) r) c
-  keeps_put_reply reply rs r c goes =
-      keeps_then CanAny Allows (Steps rs []) (Ends rs) (put_packet (reply_header reply r.state) (λ s. Done (record s { replies = rs })) r)
-      (λ q. Done (q, not q.over)) c
-      (keeps_put_packet (reply ∷ rs) rs (reply_header reply r.state) (λ s. Done (record s { replies = rs }))
-      (λ s d left. (left.0, refl)) r c goes)
-      (λ q d ends. step_of rs [] q d ends)
+  keeps_put_reply reply rs r c goes = grind (arith, common_steps, keeps_then, put_packet, step_of)
 
   replies_keep : (rs : List Reply) (r : Filling) (c : Situation) → Goes rs r c
       → Keeps CanAny Allows (Ends []) (while_up_to (length rs) put_reply r) c
@@ -155,15 +138,11 @@ module _ (a : Option Known) where
   -- The host's calls leave the ring.
   keeps_closing : (rs : List Reply) (e : DeviceEntry) (f : DeviceConnection → DeviceConnection) (s : DeviceState) (c : Situation) → Leaves rs s c
       → Keeps CanAny Allows (Leaves rs) (closing e f s) c
-  keeps_closing rs e f s c left =
-      keeps_if (asking CanAny Allows) (Leaves rs) e.value.closed _ _ c (λ closed. left)
-      (λ still. (tt, λ x d allowed. (grown_same Rx a c d allowed.ring left.0, left.1)))
+  keeps_closing rs e f s c left = grind (arith, common_steps, grown_same)
 
   keeps_leaving : (rs : List Reply) (e : DeviceEntry) (s : DeviceState) (c : Situation) → Leaves rs s c
       → Keeps CanAny Allows (Leaves rs) (leaving false e s) c
-  keeps_leaving rs e s c left =
-      keeps_then CanAny Allows (Leaves rs) (Leaves rs) (closing e stream_closed s) _ c (keeps_closing rs e stream_closed s c left)
-      (λ t d also. also)
+  keeps_leaving rs e s c left = grind (arith, common_steps, keeps_then, closing, keeps_closing)
 
   -- What a connection owes.
   keeps_after_paying : (rs : List Reply) (what : Owed) (e : DeviceEntry) (s : DeviceState) (c : Situation) → Leaves rs s c
@@ -197,27 +176,11 @@ module _ (a : Option Known) where
 
   keeps_read_with_chain : (rs : List Reply) (e : DeviceEntry) (r : Filling) (c : Situation) → Held rs r c
       → Keeps CanAny Allows (Ends rs) (read_with_chain e r) c
-  keeps_read_with_chain rs e r c held = by r.state.chain held
-    where
-      asks : Chain → DeviceTree Filling
-      asks chain = Ask (ReadStream e.value.stream (read_room (free_of e.value.end.credit) chain))
-          (λ answer. read_answered chain e answer.0 answer.1 r)
-
-      by : (o : Option Chain) → HeldWith rs r c o → Keeps CanAny Allows (Ends rs) (elim o [ None ↦ Done r | Some chain ↦ asks chain ]) c
-      by None held = held.1
-      by (Some chain) goes = (
-        tt,
-        λ answer d allowed. keeps_read_answered rs chain e answer.0 answer.1 r d
-            (going rs r d goes.0 (grown_same Rx a c d allowed.0.ring goes.1.0) (goes.1.2 goes.0)),
-      )
+  keeps_read_with_chain rs e r c held = grind (arith, common_steps, free_of, read_answered, keeps_read_answered, going, grown_same)
 
   keeps_read_stream : (rs : List Reply) (e : DeviceEntry) (r : Filling) (c : Situation) → Goes rs r c
       → Keeps CanAny Allows (Ends rs) (read_stream e r) c
-  keeps_read_stream rs e r c goes =
-      keeps_if (asking CanAny Allows) (Ends rs) (may_read e.value.end e.value.end.state) _ _ c (λ may.
-      keeps_if (asking CanAny Allows) (Ends rs) (free_of e.value.end.credit == 0) _ _ c (λ none. goes.1) (λ some.
-      keeps_then CanAny Allows (Ends rs) (Held rs) (hold r) (read_with_chain e) c (keeps_hold rs r c goes)
-      (λ q d held. keeps_read_with_chain rs e q d held))) (λ not_now. goes.1)
+  keeps_read_stream rs e r c goes = grind (arith, common_steps, free_of, keeps_then, keeps_hold, keeps_read_with_chain)
 
   -- The round.
   keeps_serve_slot : (rs : List Reply) (slot : ℕ) (r : Filling) (c : Situation) → Ends rs r c
@@ -313,10 +276,7 @@ module _ (s : DeviceState) (c : Situation) where
   Takes x d = x.1 ≡ taken.None → Stops Tx c.ring.known d
 
   heads : (chain : Chain) (h : Header) (d : Situation) → Keeps CanAny Allows Takes (on_header chain h s) d
-  heads chain h d =
-      keeps_if (asking CanAny Allows) Takes (nat_lt (chain.readable - HEADER_LEN) h.len) _ _ d (λ short none. absurd cc) (λ whole.
-      keeps_then CanAny Allows Takes (λ r e. Unit {0}) (on_packet chain h s) _ d (keeps_any (on_packet chain h s) d)
-      (λ r e any. (tt, λ y i allowed none. absurd cc)))
+  heads chain h d = grind (arith, common_steps, keeps_then, keeps_any)
 
   nexts : (answer : Next) (d : Situation) → Allows (Ring (Take Tx)) answer c d → Keeps CanAny Allows Takes (on_next answer s) d
   nexts (next.Chain chain) d allowed = (tt, λ bytes e also. heads chain (header_of bytes) e)

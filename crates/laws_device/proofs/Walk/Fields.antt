@@ -1,4 +1,6 @@
 -- A walk that looks at no connection: what it asks of each call, and what each small change of the device's conversations then keeps.
+use Rattle.std.proofs.lemmas.Grind.{common_steps}
+use Rattle.std.proofs.Common.{arith}
 use Rattle.std.proofs.Common.{◌≡◌, ℕ, ◌-◌, nat_lt, Bool, true, false, cond, List, [], length, Option, Some, None}
 use Rattle.byteorder.specs.Endian.{little_bytes}
 use Rattle.vs_conn.specs.Headers.{payload_header}
@@ -15,10 +17,7 @@ use Rattle.vs_device_parts.specs.State.{DeviceEntry, DeviceState}
 use Rattle.vs_proxy_parts.specs.{State.{Handshake, ProxyState}, Turns.turn_of}
 use Rattle.laws_device.{specs.Walk.Seen.{Seen, seen}, proofs.Walk.{Keeping.{Asking, Keeps}, Turning.{AfterAccept, AfterByte, Between, Ends, Shakes, keeps_turn}}}
 use Rattle.laws_device.proofs.Walk.{Serving.{AfterEvent, AfterRead, AfterWrite, Closes, Fills, Writes}, Taking.{AfterDial, AfterHeader, Takes}}
-use Rattle.vs_outside.specs.declared.host_net.Accepted.TheVariants as accepted
-use Rattle.vs_outside.specs.declared.host_net.Dialed.TheVariants as dialed
 use Rattle.vs_outside.specs.declared.host_net.StreamRead.TheVariants as read
-use Rattle.vs_outside.specs.declared.host_net.StreamWrite.TheVariants as write
 use Rattle.vs_ring_port.specs.declared.device_ring.Next.TheVariants as next
 use Rattle.vs_ring_port.specs.declared.failure.Failure.TheVariants as failure
 use Rattle.laws_device.proofs.Walk.Serving as serving
@@ -110,10 +109,7 @@ module _ {S : Type 0} (K : Asking S) (P : Option Chain → Fields → S → Type
       }
 
       wrote : (e : DeviceEntry) (s : DeviceState) (a : StreamWrite) (d : S) → P None (faulted (write_failed a) (fields s)) d → AfterWrite K (D hands) e s a d
-      wrote e s (write.Took n) d at = at
-      wrote e s write.Again d at = at
-      wrote e s write.Closed d at = at
-      wrote e s write.Failed d at = at
+      wrote e s a d at = grind (arith, common_steps)
 
       pub writes : Writes K (D hands)
       writes = record {
@@ -122,14 +118,10 @@ module _ {S : Type 0} (K : Asking S) (P : Option Chain → Fields → S → Type
       }
 
       held : (s : DeviceState) (a : Next) (d : S) → P None (after_rx a (fields s)) d → serving.AfterTake K (D hands) s a d
-      held s (next.Chain chain) d at = at
-      held s next.None d at = at
-      held s (next.Failed f) d at = at
+      held s a d at = grind (arith, common_steps)
 
       paid : (s : DeviceState) (a : Next) (d : S) → AfterEventPage a (fields s) d → AfterEvent K (D hands) s a d
-      paid s (next.Chain chain) d at = at
-      paid s next.None d at = at
-      paid s (next.Failed f) d at = at
+      paid s a d at = grind (arith, common_steps)
 
       have_read : (e : DeviceEntry) (chain : Chain) (s : DeviceState) (a : StreamRead) (payload : List ℕ) (d : S)
           → s.chain ≡ Some chain → P None (faulted (read_failed a) (fields s)) d → AfterRead K (D hands) e chain s a payload d
@@ -161,9 +153,7 @@ module _ {S : Type 0} (K : Asking S) (P : Option Chain → Fields → S → Type
 
         dialed_by : (chain : Chain) (h : Header) (s : DeviceState) (a : Dialed) (d : S) → P (Some chain) (faulted (dial_failed a) (fields s)) d
             → AfterDial K (D hands) (U hands) chain h s a d
-        dialed_by chain h s (dialed.Stream id) d at = at
-        dialed_by chain h s dialed.Refused d at = at
-        dialed_by chain h s dialed.Failed d at = at
+        dialed_by chain h s a d at = grind (arith, common_steps)
 
         pub takes : Takes K (D hands) (U hands)
         takes = record {
@@ -178,9 +168,7 @@ module _ {S : Type 0} (K : Asking S) (P : Option Chain → Fields → S → Type
 
     accepted_by : (hands : List Handshake) (port : ℕ) (s : DeviceState) (a : Accepted) (d : S) → P None (faulted (accept_failed a) (fields s)) d
         → AfterAccept K (Between D) hands port s a d
-    accepted_by hands port s (accepted.Stream id) d at = at
-    accepted_by hands port s accepted.None d at = at
-    accepted_by hands port s accepted.Failed d at = at
+    accepted_by hands port s a d at = grind (arith, common_steps)
 
     byte_read : (h : Handshake) (hands : List Handshake) (port : ℕ) (s : DeviceState) (a : StreamRead) (bytes : List ℕ) (d : S)
         → P None (faulted (read_failed a) (fields s)) d → AfterByte K (Between D) h hands port s a bytes d

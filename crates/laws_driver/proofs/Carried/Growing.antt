@@ -3,8 +3,8 @@ use Rattle.std.{proofs.{Common.{◌≡◌, ℕ, true, Option, Some, None, List, 
 use Rattle.vs_contents.specs.CallTree.{Ask, Done}
 use Rattle.laws_history.specs.declared.packet.Packet.{Packet}
 use Rattle.vs_page.specs.{Held.{event_held, packet_held}, Log.{Driver, Log}, declared.log.LogEntry.{LogEntry, TheVariants.{GotEvent, GotPacket, Mark, PutPacket}}}
-use Rattle.vs_ring_port.specs.{Contents.{IsSound, RingContents}, DriverCalls.{DriverAnswer, DriverCall, DriverMoves, LoadCid, Publish, Reap, Stage}, EndLog.{EndLog, all_put}}
-use Rattle.vs_ring_port.specs.EndLog.{entries_marked, entries_published, entries_reaped, log_loaded, log_published, log_reaped, log_staged, pages_at, with_event, with_packet}
+use Rattle.vs_ring_port.specs.{Contents.{IsSound, RingContents}, DriverCalls.{DriverAnswer, DriverCall, DriverMoves}, EndLog.{EndLog, all_put}}
+use Rattle.vs_ring_port.specs.EndLog.{entries_marked, entries_published, entries_reaped, with_event, with_packet}
 use Rattle.vs_ring_port.specs.{Lists.Rings, declared.queue.Queue.{Queue, TheVariants.{Event, Rx, Tx}}}
 use Rattle.vs_driver_parts.specs.{Conversations.DriverTree, Playing.{Plays, RingAllows}}
 use Rattle.laws_tables.{specs.Later.{IsLater, StaysShut}, proofs.Later.{later_then, stays_shut}}
@@ -49,11 +49,7 @@ moved : (call : DriverCall) (a : DriverAnswer call) (L : Rings → Type 0) (f : 
 moved call a L f Q g c d made later = grind (arith, common_steps)
 
 one_goes : (call : DriverCall) (a : DriverAnswer call) (c d : RingContents) → RingAllows call a c d → GoesOn c d
-one_goes (Stage queue page) a c d allowed = moved _ _ _ _ _ (log_staged queue page) c d allowed (λ l. ([], refl))
-one_goes (Publish queue) a c d allowed =
-    moved _ _ _ _ _ (log_published queue) c d allowed.1 (λ l. published_later queue (pages_at queue l.staged) l.entries)
-one_goes (Reap queue) a c d allowed = moved _ _ _ _ _ (log_reaped queue a) c d allowed.1 (λ l. reaped_later queue a l.entries)
-one_goes LoadCid a c d allowed = moved _ _ _ _ _ (log_loaded a) c d allowed.1 (λ l. marked_later a l.entries)
+one_goes call a c d allowed = grind (arith, common_steps, moved, published_later, reaped_later, marked_later)
 
 more_then : (a b c : Option EndLog) → TellsMore a b → TellsMore b c → TellsMore a c
 more_then None None c first next = next

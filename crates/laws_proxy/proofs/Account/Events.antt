@@ -38,12 +38,7 @@ module _ (from : ℕ) (was : Bool) where
   taken (next.Failed f) k n at = at
 
   tx_calls : TxCalls events P
-  tx_calls = record {
-    takes = λ k n at a. taken a k n at;
-    reads = λ chain len k n at bytes. at;
-    dials = λ chain path flow k n at a. at;
-    returns = λ chain k n at a. at;
-  }
+  tx_calls = grind (arith, common_steps, taken)
 
   owed_after : (size now : ℕ) (s : ProxyState) → s.device.event_owed ≡ was
       → Keeps events (λ (x : ProxyState × Turn) n. P None (fields x.0.device) n) (turn_of size now s) from
@@ -68,11 +63,7 @@ the_turn s l = record {
 
 said_by : (s : ProxyState) (l : Turning) (t : Turned) (o : Option Failure)
     → elim o as (λ _. Turn) [ Some f ↦ turn.Failed f | None ↦ turn.Turned (the_turn s l) ] ≡ turn.Turned t → (o ≡ None) × (the_turn s l ≡ t)
-said_by s l t (Some f) answer = absurd cc
-said_by s l t None answer = (refl, same)
-  where
-    same : the_turn s l ≡ t
-    same = cc
+said_by s l t o answer = grind (arith, common_steps)
 
 pub turn_says : (s : ProxyState) (l : Turning) (t : Turned) → turned s l ≡ turn.Turned t → (l.state.device.failed ≡ None) × (the_turn s l ≡ t)
 turn_says s l t = said_by s l t l.state.device.failed

@@ -1,4 +1,6 @@
 -- The packets of a turn are judged, and counted where they are dropped, as the host's faults are.
+use Rattle.std.proofs.lemmas.Grind.{common_steps}
+use Rattle.std.proofs.Common.{arith}
 use Rattle.std.proofs.Common.{◌≡◌, ℕ, ◌+◌, zero, suc, Bool, true, false, cond, List, length, nat_le, Option, Some, None, Result, refl, sym, subst, ◌∙◌}
 use Rattle.vs_contents.{specs.CallTree.{Done, Ask, bind, while_up_to, Leads}, proofs.Leads.{leads_bind, leads_split}}
 use Rattle.vs_ring_port.specs.{Contents.Take, declared.{failure.Failure.Failure, queue.Queue.TheVariants.Tx}}
@@ -65,15 +67,7 @@ none_of (suc n) t f calls is =
 
 stage_taken : (size : ℕ) (t u : Turning) (calls later : List Made) → Leads Makes (unless_failed (take_stage size) t) calls u later
     → AreTaken size t calls u later
-stage_taken size t u calls later leads = by t.state.device.failed refl leads
-  where
-    by : (o : Option Failure) → t.state.device.failed ≡ o → Leads Makes (elim o [ Some f ↦ Done t | None ↦ take_stage size t ]) calls u later
-        → AreTaken size t calls u later
-    by (Some f) is rest =
-        let P : Turning → Type 0 = λ v. AreTaken size t calls v later in
-        let Q : List Made → Type 0 = λ m. AreTaken size t calls t m in
-        subst P rest.0 (subst Q rest.1 (none_of size t f calls is))
-    by None is rest = taking size t u calls later rest
+stage_taken size t u calls later leads = grind (arith, common_steps, none_of, taking)
 
 -- A turn.
 module _ (size now : ℕ) (s : ProxyState) where

@@ -4,7 +4,7 @@ use Rattle.vs_header.specs.{Packet.header_of, declared.{Header.Header, TheConsta
 use Rattle.vs_page.specs.{Log.Device, Open.is_dropped}
 use Rattle.vs_ring_port.specs.{Contents.Read, declared.{device_ring.{Chain.Chain, Next.Next}, failure.Failure.Failure}}
 use Rattle.vs_wrap.specs.Wrap.{counted}
-use Rattle.vs_device_parts.specs.{Receiving.written, Calls.{Accept, DeviceTree, Dial, ReadStream, Ring, WriteStream}}
+use Rattle.vs_device_parts.specs.{Receiving.written, Calls.{DeviceTree, Ring}}
 use Rattle.vs_proxy_parts.specs.{Turns.{event_stage, fill_stage, proxy_reset_of, pump_stage, tick_stage, turn_of, unless_failed}, Handshakes.shake_hands, State.Handshake}
 use Rattle.vs_proxy_parts.specs.{State.{ProxyState, Turning, start}, declared.answers.Turn.Turn}
 use Rattle.laws_device.proofs.Walk.{Fields.{AfterEventPage, AfterTx, Calls, Fields, HeaderRead, TxCalls, after_rx}, Keeping.{Asking, Keeps, keeps_then}, Single.reset_keeps}
@@ -34,17 +34,7 @@ module _ (b : Bool) where
   puts_packet chain h (x ∷ payload) n m at = (refl, λ a. (refl, λ c. (refl, λ d. at)))
 
   calls : Calls (counting b) P
-  calls = record {
-    closes = λ page stream n m at. (refl, λ a. at);
-    shuts = λ stream n m at. (refl, λ a. at);
-    labels = λ stream flow n m at. (refl, λ a. at);
-    accepts = λ n m at. (refl, λ a. ap (count_made Accept a) at);
-    reads = λ stream room n m at. (refl, λ a. ap (count_made (ReadStream stream room) a) at);
-    writes = λ stream bytes n m at. (refl, λ a. ap (count_made (WriteStream stream bytes) a) at);
-    takes_rx = λ n m at none. (refl, λ a. rx_page a n m at);
-    event = λ n m at owed. (refl, λ a. event_page a n m at);
-    puts = λ chain h payload n m at is. puts_packet chain h payload n m at;
-  }
+  calls = grind (arith, common_steps, rx_page, event_page, puts_packet)
 
   abbrev K : Asking DeviceCounts
   K = counting b
@@ -107,12 +97,7 @@ taken next.None n m at = at
 taken (next.Failed f) n m at = at
 
 tx_calls : TxCalls (counting false) P
-tx_calls = record {
-  takes = λ n m at. (refl, λ a. taken a n m at);
-  reads = λ chain len n m at. (refl, λ bytes. at);
-  dials = λ chain path flow n m at. (refl, λ a. ap (count_made (Dial path flow) a) at);
-  returns = λ chain n m at. (refl, λ a. at);
-}
+tx_calls = grind (arith, common_steps, taken)
 
 pub counts_turn : (size now : ℕ) (s : ProxyState)
     → Walks false (λ (x : ProxyState × Turn). counts_shown x.0.device) (turn_of size now s) (counts_shown s.device)
