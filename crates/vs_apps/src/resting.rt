@@ -110,16 +110,6 @@ pub fn rests(alloc: Global, count: usize) -> Result<Vec<Rest>, AllocError>
     Ok(rests)
 }
 
-/// Whether a thread rests.
-pub fn any_rests(rests: &[Rest]) -> bool {
-    for rest in rests {
-        if rest.is_on() {
-            return true;
-        }
-    }
-    false
-}
-
 /// All threads go on.
 pub fn end_rests(rests: &[Rest]) {
     for rest in rests {

@@ -6,7 +6,7 @@ ghost use Rattle.laws_apps.specs.Runs.{IsRunOf};
 ghost use Rattle.vs_apps.specs.Guests.{run_in};
 
 use crate::guests::{Guests, RunName, laws_of_guests};
-use crate::resting::{Pace, RESTING, RESTING_AGAIN, Rest, STANDING, any_rests, end_rests, rests};
+use crate::resting::{Pace, RESTING, RESTING_AGAIN, Rest, STANDING, end_rests, rests};
 use std::alloc::Global;
 use std::sync::atomic::{AtomicU64, Ordering};
 use std::sync::{Mutex, Wait};
@@ -120,22 +120,14 @@ pub fn worker<W: Wait, N: RunName, G: Gate>(
 ) -> Result<(), OutOfMemory>
     requires { k < length N.script }
 {
-    let mut pace = STANDING;
-    for _ in rt.forever() {
-        go_on(rt, lock, k, &mut pace, FURTHER, idle, gate)?;
-        if pace.ended {
-            return Ok(());
-        }
-    }
-    unreachable!()
+    work_and_rest(rt, lock, None, k, idle, gate)
 }
 
-// The same for a thread that may rest.
+// The same for a thread that may rest, as long as it isn't said that no more turns are made.
 fn work_and_rest<W: Wait, N: RunName, G: Gate>(
     rt: &W,
     lock: &Mutex<Guests<N>>,
-    shared: &Shared,
-    rest: &Rest,
+    rest: Option<(&Rest, &AtomicU64)>,
     k: usize,
     idle: u32,
     gate: &mut G,
@@ -149,9 +141,12 @@ fn work_and_rest<W: Wait, N: RunName, G: Gate>(
         if pace.waits == 0 {
             awake = RESTING;
         }
-        if !pace.ended && pace.waits >= awake {
-            pace = rest.begin(rt, &shared.over, pace);
-            awake = pace.waits.saturating_add(RESTING_AGAIN);
+        match rest {
+            Some((rest, over)) if !pace.ended && pace.waits >= awake => {
+                pace = rest.begin(rt, over, pace);
+                awake = pace.waits.saturating_add(RESTING_AGAIN);
+            }
+            _ => {}
         }
         if pace.ended {
             return Ok(());
@@ -168,7 +163,7 @@ fn step_resting<N: RunName>(
 ) -> Result<(), OutOfMemory>
     requires { vec_len rests.now ≤ length N.script }
 {
-    if !any_rests(rests.as_slice()) {
+    if !rests.iter().any(|rest| rest.is_on()) {
         return Ok(());
     }
     let Some(mut guests) = lock.try_lock() else {
@@ -216,13 +211,7 @@ fn step_all_own<W: Wait, N: RunName, G: Gate>(
 
 // How many of the caller's own apps have ended.
 fn own_ended(own: &[Own]) -> u64 {
-    let mut ended = 0u64;
-    for app in own {
-        if app.mine && app.pace.ended {
-            ended = ended.saturating_add(1);
-        }
-    }
-    ended
+    own.iter().filter(|app| app.mine && app.pace.ended).count() as u64
 }
 
 // What the threads share beside the guests: how many workers have ended, whether one wanted memory, and whether no more turns are made.
@@ -281,11 +270,8 @@ fn work<W: Wait, N: RunName, G: Gate>(
 )
     requires { k < length N.script }
 {
-    let done = match rests.get(k) {
-        Some(rest) => work_and_rest(rt, lock, shared, rest, k, idle, gate),
-        None => worker(rt, lock, k, idle, gate),
-    };
-    if done.is_err() {
+    let rest = rests.get(k).map(|rest| (rest, &shared.over));
+    if work_and_rest(rt, lock, rest, k, idle, gate).is_err() {
         shared.wants.store(1, Ordering::SeqCst);
     }
     shared.ended.fetch_add(1, Ordering::SeqCst);
