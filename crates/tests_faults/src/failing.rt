@@ -27,32 +27,6 @@ pub enum Called {
     OwnHost,
 }
 
-/// What the source holds of a command whose nth call fails.
-fn text_of(alloc: Global, source: &str, called: Called, n: u64) -> Result<String, AllocError> {
-    match called {
-        Called::OwnHost => format!(in alloc; "host fail {n}\n{source}"),
-        _ => String::from_str(alloc, source),
-    }
-}
-
-/// A source of this text, whose nth call fails where it is the one called.
-fn source_of(alloc: Global, text: String, called: Called, n: u64) -> Result<MemSource, AllocError> {
-    let mut source = MemSource::new(alloc, text.into_bytes(), 16);
-    if matches!(called, Called::Source) {
-        source.fail(n)?;
-    }
-    Ok(source)
-}
-
-/// A sink of which the same is so.
-fn sink_of(alloc: Global, called: Called, n: u64) -> Result<MemSink, AllocError> {
-    let mut sink = MemSink::new(alloc, 4096);
-    if matches!(called, Called::Sink) {
-        sink.fail(n)?;
-    }
-    Ok(sink)
-}
-
 /// A stream that gives an OK line and `hi`, and ends.
 fn answered(alloc: Global) -> Result<PreparedStream, AllocError> {
     Ok(PreparedStream {
@@ -61,18 +35,6 @@ fn answered(alloc: Global) -> Result<PreparedStream, AllocError> {
         room: None,
         closed: false,
     })
-}
-
-/// A host of which the same is so, with such streams at this path.
-fn host_of(alloc: Global, path: &str, called: Called, n: u64) -> Result<PeerHost, AllocError> {
-    let mut host = PeerHost::new(alloc, path, answered(alloc)?)?;
-    if matches!(called, Called::Start) {
-        host.fail_start(n)?;
-    }
-    if matches!(called, Called::Host) {
-        host.fail(n)?;
-    }
-    Ok(host)
 }
 
 /// The status of a command whose nth call fails, and what it prints.
@@ -84,10 +46,20 @@ pub fn failing<R: AllocGlobal + Wait + Threads + Sync>(
 ) -> Result<(u8, MemSink), AllocError> {
     let alloc = rt.alloc();
     let words = words_of(alloc, command.line)?;
-    let text = text_of(alloc, command.source, called, n)?;
-    let mut source = source_of(alloc, text, called, n)?;
-    let mut sink = sink_of(alloc, called, n)?;
-    let mut host = host_of(alloc, command.path, called, n)?;
+    let text = match called {
+        Called::OwnHost => format!(in alloc; "host fail {n}\n{}", command.source)?,
+        _ => String::from_str(alloc, command.source)?,
+    };
+    let mut source = MemSource::new(alloc, text.into_bytes(), 16);
+    let mut sink = MemSink::new(alloc, 4096);
+    let mut host = PeerHost::new(alloc, command.path, answered(alloc)?)?;
+    match called {
+        Called::Source => source.fail(n)?,
+        Called::Sink => sink.fail(n)?,
+        Called::Start => host.fail_start(n)?,
+        Called::Host => host.fail(n)?,
+        Called::OwnHost => {}
+    }
     let status = status_of(rt, &words, &mut source, &mut host, &mut sink);
     Ok((status, sink))
 }

@@ -40,17 +40,15 @@ fn is_cut_off<R: AllocGlobal + Wait + Threads + Sync>(
     command: &Command,
     pieces: &[&str],
 ) -> Result<bool, AllocError> {
-    let mut n = 1u64;
     let mut before = String::new(rt.alloc());
-    for piece in pieces {
-        let (ended, sink) = failing(rt, command, Called::Sink, n)?;
+    for (n, piece) in pieces.iter().enumerate() {
+        let (ended, sink) = failing(rt, command, Called::Sink, n as u64 + 1)?;
         if ended != 4 || sink.bytes() != before.as_bytes() {
             return Ok(false);
         }
         before.push_str(piece)?;
-        n = n.saturating_add(1);
     }
-    let (ended, sink) = failing(rt, command, Called::Sink, n)?;
+    let (ended, sink) = failing(rt, command, Called::Sink, pieces.len() as u64 + 1)?;
     Ok(ended == 0 && sink.bytes() == before.as_bytes())
 }
 

@@ -70,14 +70,9 @@ impl<R: Clock> BackoffGate<R> {
     pub fn beside(rt: R, moves: Moves) -> BackoffGate<R>
         ensures { result ≡ 0 }
     {
-        BackoffGate {
-            rt,
-            pauses: 0,
-            row: 0,
-            steps: Cell::new(0),
-            moves: Some(moves),
-            moved: 0,
-        }
+        let mut gate = BackoffGate::new(rt);
+        gate.moves = Some(moves);
+        gate
     }
 
     // Whether anything moved since the last pause.

@@ -132,10 +132,9 @@ impl<R: Net + Files + AllocGlobal + Drop> HostNet for UnixHost<R> {
     fn start(&mut self, path: &str) -> Started {
         self.start_error = self.listen(path).err();
         self.faults = counted(self.faults, self.start_error.is_some());
-        if self.start_error.is_some() {
-            Started::Failed
-        } else {
-            Started::Ready
+        match self.start_error {
+            Some(_) => Started::Failed,
+            None => Started::Ready,
         }
     }
 

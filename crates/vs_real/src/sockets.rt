@@ -13,6 +13,7 @@ use mio::{Events, Interest, Poll, Token};
 use std::alloc::{AllocGlobal, Global};
 use std::fs::Files;
 use std::io::{self, ErrorKind};
+use std::mem;
 use std::net::Net;
 use std::os::fd::{AsRawFd, RawFd};
 use std::time::Duration;
@@ -153,10 +154,8 @@ impl Sockets {
         let Some(listener) = &self.listener else {
             return Accepted::None;
         };
-        let accepted = again::accept(listener);
-        let failed_before = self.accept_failed;
-        self.accept_failed = false;
-        match accepted {
+        let failed_before = mem::replace(&mut self.accept_failed, false);
+        match again::accept(listener) {
             Ok(stream) => match self.add(stream) {
                 Some(id) => Accepted::Stream(id),
                 None => Accepted::Failed,
