@@ -37,7 +37,32 @@ fn answered(alloc: Global) -> Result<PreparedStream, AllocError> {
     })
 }
 
-/// The status of a command whose nth call fails, and what it prints.
+/// What the source holds of a command whose nth call fails.
+fn text_of(alloc: Global, source: &str, called: Called, n: u64) -> Result<String, AllocError> {
+    match called {
+        Called::OwnHost => format!(in alloc; "host fail {n}\n{source}"),
+        _ => String::from_str(alloc, source),
+    }
+}
+
+/// The nth call fails of the one of these that is called.
+fn fail_one(
+    source: &mut MemSource,
+    sink: &mut MemSink,
+    host: &mut PeerHost,
+    called: Called,
+    n: u64,
+) -> Result<(), AllocError> {
+    match called {
+        Called::Source => source.fail(n),
+        Called::Sink => sink.fail(n),
+        Called::Start => host.fail_start(n),
+        Called::Host => host.fail(n),
+        Called::OwnHost => Ok(()),
+    }
+}
+
+/// The status of a command whose nth call fails, and what it prints, on one thread.
 pub fn failing<R: AllocGlobal + Wait + Threads + Sync>(
     rt: &R,
     command: &Command,
@@ -46,34 +71,15 @@ pub fn failing<R: AllocGlobal + Wait + Threads + Sync>(
 ) -> Result<(u8, MemSink), AllocError> {
     let alloc = rt.alloc();
     let words = words_of(alloc, command.line)?;
-    let text = match called {
-        Called::OwnHost => format!(in alloc; "host fail {n}\n{}", command.source)?,
-        _ => String::from_str(alloc, command.source)?,
-    };
-    let mut source = MemSource::new(alloc, text.into_bytes(), 16);
-    let mut sink = MemSink::new(alloc, 4096);
+    let text = text_of(alloc, command.source, called, n)?;
+    let mut input = MemSource::new(alloc, text.into_bytes(), 16);
+    let mut out = MemSink::new(alloc, 4096);
     let mut host = PeerHost::new(alloc, command.path, answered(alloc)?)?;
-    match called {
-        Called::Source => source.fail(n)?,
-        Called::Sink => sink.fail(n)?,
-        Called::Start => host.fail_start(n)?,
-        Called::Host => host.fail(n)?,
-        Called::OwnHost => {}
-    }
-    let status = status_of(rt, &words, &mut source, &mut host, &mut sink);
-    Ok((status, sink))
-}
-
-/// The status of these words, on one thread.
-fn status_of<R: AllocGlobal + Wait + Threads + Sync>(
-    rt: &R,
-    words: &[String],
-    source: &mut MemSource,
-    host: &mut PeerHost,
-    sink: &mut MemSink,
-) -> u8 {
-    let mut clock = StepClock::new();
-    let mut gate = FreeGate::new();
-    let gates = Vec::new(rt.alloc());
-    vsock_main(rt, words, source, host, &mut clock, &mut gate, gates, sink)
+    fail_one(&mut input, &mut out, &mut host, called, n)?;
+    let (mut time, mut gate) = (StepClock::new(), FreeGate::new());
+    let none = Vec::new(alloc);
+    let ended = vsock_main(
+        rt, &words, &mut input, &mut host, &mut time, &mut gate, none, &mut out,
+    );
+    Ok((ended, out))
 }
