@@ -1,7 +1,8 @@
 //! A stream of a host in memory.
-ghost use Rattle.std.specs.{Prelude.{◌≡◌, ◌≤◌, ◌<◌, ◌-◌, ◌==◌, ◌++◌, ◌||◌, true, if◌then◌else◌, length, min, take, position, IfSome, IfOk, OnOk, OnErr, is_none}, Option.option_map};
+ghost use Rattle.std.specs.{Prelude.{◌≡◌, ◌≤◌, ◌<◌, ◌+◌, ◌-◌, ◌^◌, ◌==◌, ◌++◌, ◌||◌, Bool, true, [], if◌then◌else◌, drop, length, min, take, position, IfSome, IfOk, OnOk, OnErr, is_none}, Option.option_map};
 ghost use Rattle.vs_outside.specs.{Host.{dialed_stream, is_waiting, read_of, taken_of, write_of}, HostProgram.{plain, client_stream, ReadsStream, stream_after_write, is_over}};
 ghost use Rattle.vs_outside.specs.{HostProgram.{with_bytes, changed}, HostBytes.{after_line, has_line, wrote_after_connect, read_after_ok}};
+ghost use Rattle.vs_outside.specs.KeptBytes.{IsKept};
 ghost use Rattle.vs_excerpt.specs.Excerpt.{excerpt_of};
 
 use crate::host_net::{StreamRead, StreamState, StreamWrite};
@@ -78,28 +79,64 @@ impl PreparedStream {
     }
 }
 
-/// A stream of a host in memory. Of the bytes that the proxy gave it it keeps an excerpt, and no more.
+/// A stream of a host in memory. Of the bytes that the proxy gave it, and of those that it took, it keeps an excerpt, and no more.
 #[derive(Drop)]
 pub struct MemStream {
     label: Option<Flow>,
     by_client: bool,
     state: StreamState,
-    /// All bytes that the host's program wrote, of which the proxy took the first `at`.
+    /// Bytes that the host's program wrote, of which the proxy took the first `at`: before them it took others, which aren't kept.
     written: Vec<u8>,
     at: usize,
+    /// How many bytes the host's program wrote in all.
+    total: u64,
     ended: bool,
-    given: BytesGiven,
-    /// What is kept of the bytes that the host's program was given to read, without the OK line that a client gets.
-    read: Excerpt,
-    /// Whether no byte of an OK line is to come: the line is whole, or the proxy dialled the stream.
-    line_over: bool,
+    taken: Passed,
+    given: Passed,
     room: Option<usize>,
     host_closed: bool,
     write_shut: bool,
 }
 
+/// Bytes that went by one way. Of them, without a client's line of the handshake, an excerpt is kept.
+#[derive(Drop)]
+struct Passed {
+    items: BytesGiven,
+    kept: Excerpt,
+    /// Whether no byte of the line is to come: it is whole, or the proxy dialled the stream.
+    line_over: bool,
+}
+
+impl Passed {
+    /// No byte so far.
+    fn none(line_over: bool) -> Passed
+        ensures items { result.items.items ≡ [] }
+        ensures kept { result.kept ≡ excerpt_of [] }
+        ensures line { result.line_over ≡ line_over }
+    {
+        Passed {
+            items: BytesGiven::new(),
+            kept: Excerpt::none(),
+            line_over,
+        }
+    }
+
+    /// These bytes go by.
+    fn pass(&mut self, bytes: &[u8])
+        requires fits { self.old.kept.count + length bytes.now < 2 ^ 64 }
+        ensures items { self.new.items.items ≡ self.old.items.items ++ bytes.now }
+        ensures kept { (by_client : Bool) → IsKept by_client self.old.items.items self.old.kept self.old.line_over
+            → IsKept by_client self.new.items.items self.new.kept self.new.line_over }
+    {
+        let behind = behind_line(self.line_over, bytes);
+        self.kept = self.kept.then(behind);
+        self.line_over = is_line_over(self.line_over, bytes);
+        self.items = self.items.then(&Piece { bytes });
+    }
+}
+
 impl Model for MemStream {
-    ghost use Rattle.std.specs.Prelude.{◌≤◌, false, take, drop, vec_len};
+    ghost use Rattle.std.specs.Prelude.{◌≤◌, ◌<◌, ◌+◌, ◌^◌, false, drop, length, vec_len};
     ghost use Rattle.vs_outside.specs.{Host.Stream, KeptBytes.IsKept};
 
     ghost Value = { Stream };
@@ -108,17 +145,19 @@ impl Model for MemStream {
       label = s.label;
       by_client = s.by_client;
       state = s.state;
-      taken = take s.at s.written.items;
+      taken = s.taken.items.items;
       untaken = drop s.at s.written.items;
       ended = s.ended;
-      given = s.given.items;
+      given = s.given.items.items;
       room = s.room;
       echoes = false;
       host_closed = s.host_closed;
       write_shut = s.write_shut;
     } };
 
-    ghost invariant = { λ s. (s.at ≤ vec_len s.written) × IsKept s.by_client s.given.items s.read s.line_over };
+    ghost invariant = { λ s. (s.at ≤ vec_len s.written) × (s.total + s.at ≡ length s.taken.items.items + vec_len s.written)
+      × IsKept s.by_client s.taken.items.items s.taken.kept s.taken.line_over
+        × IsKept s.by_client s.given.items.items s.given.kept s.given.line_over };
 }
 
 impl MemStream {
@@ -132,10 +171,10 @@ impl MemStream {
             state: StreamState::Waiting,
             written: Vec::new(alloc),
             at: 0,
+            total: 0,
             ended: false,
-            given: BytesGiven::new(),
-            read: Excerpt::none(),
-            line_over: false,
+            taken: Passed::none(false),
+            given: Passed::none(false),
             room: None,
             host_closed: false,
             write_shut: false,
@@ -156,10 +195,10 @@ impl MemStream {
             state: StreamState::Open,
             written: Vec::from_slice(alloc, &prepared.bytes)?,
             at: 0,
+            total: prepared.bytes.len() as u64,
             ended: prepared.ended,
-            given: BytesGiven::new(),
-            read: Excerpt::none(),
-            line_over: true,
+            taken: Passed::none(true),
+            given: Passed::none(true),
             room: prepared.room,
             host_closed: prepared.closed,
             write_shut: false,
@@ -187,13 +226,6 @@ impl MemStream {
         self.state
     }
 
-    /// The bytes that the proxy took of the stream.
-    pub fn taken(&self) -> &[u8]
-        ensures { result.now ≡ self.now.taken }
-    {
-        &self.written[..self.at]
-    }
-
     /// The bytes that the host's program wrote and the proxy hasn't taken yet.
     pub fn untaken(&self) -> &[u8]
         ensures { result.now ≡ self.now.untaken }
@@ -208,22 +240,18 @@ impl MemStream {
         self.write_shut
     }
 
-    /// What the host's program wrote and the proxy took, without the CONNECT line of a client.
-    pub fn wrote_after_connect(&self) -> &[u8]
-        ensures { result.now ≡ wrote_after_connect self.now }
+    /// What is kept of what the host's program wrote and the proxy took, without the CONNECT line of a client.
+    pub fn wrote_after_connect(&self) -> &Excerpt
+        ensures { result.now ≡ excerpt_of (wrote_after_connect self.now) }
     {
-        if self.by_client {
-            after_line(self.taken())
-        } else {
-            self.taken()
-        }
+        &self.taken.kept
     }
 
     /// What is kept of what the host's program was given to read, without the OK line that a client gets.
     pub fn read_after_ok(&self) -> &Excerpt
         ensures { result.now ≡ excerpt_of (read_after_ok self.now) }
     {
-        &self.read
+        &self.given.kept
     }
 
     /// Whether a client made the stream and it isn't accepted yet.
@@ -274,6 +302,7 @@ impl MemStream {
             };
         }
         let n = copy_front(left, out);
+        self.taken.pass(&self.written[self.at..self.at + n]);
         self.at += n;
         StreamRead::Got(n)
     }
@@ -313,13 +342,10 @@ impl MemStream {
         ensures ok { OnOk result (self.new ≡ record self.old { given = self.old.given ++ bytes.now }) }
         ensures err { OnErr result (self.new ≡ self.old) }
     {
-        let read = behind_ok(self.line_over, bytes);
-        if self.read.count > u64::MAX - read.len() as u64 {
+        if self.given.kept.count > u64::MAX - bytes.len() as u64 {
             return Err(AllocError);
         }
-        self.read = self.read.then(read);
-        self.line_over = is_line_over(self.line_over, bytes);
-        self.given = self.given.then(&Piece { bytes });
+        self.given.pass(bytes);
         Ok(())
     }
 
@@ -330,13 +356,34 @@ impl MemStream {
         self.ended || self.state == StreamState::Closed
     }
 
-    /// The host's program writes bytes. Where there is no memory for them, all is as before.
+    /// The host's program writes bytes. Where there is no memory for them, or all that it wrote can't be counted in 64 bits, all is as before.
     pub(crate) fn append(&mut self, bytes: &[u8]) -> Result<(), AllocError>
         ensures ok { OnOk result (self.new ≡ with_bytes bytes.now self.old) }
         ensures err { OnErr result (self.new ≡ self.old) }
     {
-        self.written.extend_from_slice(bytes)
+        let Some(total) = self.total.checked_add(bytes.len() as u64) else {
+            return Err(AllocError);
+        };
+        if self.written.len() - self.at <= self.at {
+            drop_front(&mut self.written, self.at);
+            self.at = 0;
+        }
+        self.written.extend_from_slice(bytes)?;
+        self.total = total;
+        Ok(())
     }
+}
+
+/// Drops the first bytes, at least as many as are left.
+fn drop_front(bytes: &mut Vec<u8>, at: usize)
+    requires part { at ≤ length bytes.old.items }
+    requires fits { length bytes.old.items ≤ at + at }
+    ensures { bytes.new.items ≡ drop at bytes.old.items }
+{
+    let left = bytes.len() - at;
+    let (front, back) = bytes.split_at_mut(at);
+    front[..left].copy_from_slice(back);
+    bytes.truncate(left);
 }
 
 /// What is left of the room for bytes, where there is a limit, after so many were taken.
@@ -349,8 +396,8 @@ fn room_left(room: Option<usize>, n: usize) -> Option<usize>
     }
 }
 
-/// What the host's program reads of bytes that come next: all of them once the OK line is over.
-fn behind_ok(line_over: bool, bytes: &[u8]) -> &[u8]
+/// What stands behind a client's line in bytes that come next: all of them once the line is over.
+fn behind_line(line_over: bool, bytes: &[u8]) -> &[u8]
     ensures { result.now ≡ (if line_over then bytes.now else after_line bytes.now) }
 {
     if line_over { bytes } else { after_line(bytes) }
