@@ -3,7 +3,7 @@ use Rattle.std.proofs.lemmas.Grind.{common_steps}
 use Rattle.std.proofs.Common.{◌≡◌, ℕ, ◌+◌, ◌==◌, ◌||◌, not, nat_lt, Bool, true, false, cond, List, [], ◌∷◌, ◌++◌, length, drop, Some, None, refl, sym, ap, ◌∙◌, arith}
 use Rattle.std.specs.{List.prefix_len, Option.option_map_or}
 use Rattle.vs_excerpt.specs.{Excerpt.excerpt_of, declared.Excerpt.Excerpt}
-use Rattle.vs_outside.specs.{HostBytes.{after_line, has_line}, KeptBytes.{IsKept, read_of_given}}
+use Rattle.vs_outside.specs.{HostBytes.{after_line, has_line}, KeptBytes.{IsKept, behind_handshake}}
 
 -- Byte by byte.
 abbrev pub rest_of : List ℕ → List ℕ
@@ -62,10 +62,10 @@ line_more (x ∷ xs) ys = by (x == 10) (line_more xs ys)
     by true rest = refl
     by false rest = rest
 
--- What is read where more bytes are given.
+-- What stands behind the line where more bytes come.
 read_more : (by_client : Bool) (given bytes : List ℕ)
-    → read_of_given by_client (given ++ bytes)
-    ≡ read_of_given by_client given ++ cond (cond by_client (has_line given) true) bytes (after_line bytes)
+    → behind_handshake by_client (given ++ bytes)
+    ≡ behind_handshake by_client given ++ cond (cond by_client (has_line given) true) bytes (after_line bytes)
 read_more true given bytes = behind_more given bytes
 read_more false given bytes = refl
 
@@ -83,10 +83,10 @@ kept_more by_client given bytes behind all kept next over later is part longer e
     let piece : behind ≡ cond (cond by_client (has_line given) true) bytes (after_line bytes) =
     part ∙ ap (λ (b : Bool). cond b bytes (after_line bytes)) is.line in
     record {
-      read = then (read_of_given by_client given) is.read
-          ∙ ap (λ (more : List ℕ). excerpt_of (read_of_given by_client given ++ more)) piece
+      bytes = then (behind_handshake by_client given) is.bytes
+          ∙ ap (λ (more : List ℕ). excerpt_of (behind_handshake by_client given ++ more)) piece
           ∙ ap excerpt_of (sym (read_more by_client given bytes))
-          ∙ ap (λ (more : List ℕ). excerpt_of (read_of_given by_client more)) (sym longer);
+          ∙ ap (λ (more : List ℕ). excerpt_of (behind_handshake by_client more)) (sym longer);
       line = ends ∙ ap (λ (b : Bool). b || has_line bytes) is.line ∙ over_more by_client given bytes
           ∙ ap (λ (more : List ℕ). cond by_client (has_line more) true) (sym longer);
     }

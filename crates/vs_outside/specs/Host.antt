@@ -61,7 +61,7 @@ pub record HostContents : Type 0 where
   -- which of the accepts, dials, reads and writes to come are to fail, and which of the starts
   pub to_fail : List ℕ
   pub starts_to_fail : List ℕ
-  -- whether a dial or a write found no memory, and failed
+  -- whether a dial or a write found no memory, or could count no more, and failed
   pub starved : Bool
   -- how many calls of `label` were made, and how many of `shut_write`; each count stands still at the last number of 64 bits
   pub label_calls : ℕ
@@ -95,7 +95,7 @@ fails_now c = fails_next c.to_fail
 abbrev pub called : HostContents → HostContents
 called c = record c { to_fail = counted_down c.to_fail }
 
--- A call that failed changes nothing else. One that wasn't to fail found no memory.
+-- A call that failed changes nothing else. One that wasn't to fail found no memory, or could count no more.
 abbrev pub after_failed : HostContents → HostContents
 after_failed c = if fails_now c then called c else record (called c) { starved = true }
 
@@ -254,7 +254,7 @@ abbrev pub IsDialed : List ℕ → Dialed → HostContents → Type 0
 IsDialed path dialed.Failed c = Unit {0}
 IsDialed path answer c = answer ≡ dial_answer path c
 
--- A write of n bytes is answered as its contents say, unless it failed for want of memory.
+-- A write of n bytes is answered as its contents say, unless it failed for want of memory, or since all bytes can't be counted in 64 bits.
 abbrev pub IsWritten : ℕ → ℕ → StreamWrite → HostContents → Type 0
 IsWritten id n write.Failed c = Unit {0}
 IsWritten id n answer c = answer ≡ write_answer id n c

@@ -2,7 +2,7 @@
 use Rattle.std.specs.Prelude.{ℕ, ◌+◌, ◌-◌, ◌==◌, Bool, false, if◌then◌else◌, List, [], filter, drop, position, slice_get, Option}
 use Rattle.std.specs.{List.list_any, Prelude.option_and_then, Option.{option_map, option_map_or}}
 use Rattle.vs_flow.specs.{declared.flow.Flow.Flow, Connection.Connection, Flow.same_flow}
-use Rattle.vs_outside.specs.{declared.mem_stream.TheConstants.LINE_END, Host.Stream, Host.HostContents, Host.stream_at}
+use Rattle.vs_outside.specs.{declared.passed.TheConstants.LINE_END, Host.Stream, Host.HostContents, Host.stream_at}
 
 -- The bytes after the first line, which ends at the first LF. There are none while the line isn't whole.
 abbrev pub after_line : List ℕ → List ℕ

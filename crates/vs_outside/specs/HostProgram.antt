@@ -127,7 +127,8 @@ after_fail n c = record c { to_fail = c.to_fail ++ n ∷ [] }
 abbrev pub after_fail_start : ℕ → HostContents → HostContents
 after_fail_start n c = record c { starts_to_fail = c.starts_to_fail ++ n ∷ [] }
 
--- One more accept, dial, read or write was made, which failed on purpose or didn't; or the one that failed found no memory.
+-- One more accept, dial, read or write was made, which failed on purpose or didn't; or the one that failed found no memory, or could
+-- count no more.
 abbrev pub after_call : Bool → HostMemory → HostMemory
 after_call true m = record m { contents = called m.contents; faults = one_more m.faults }
 after_call false m = record m { contents = called m.contents }

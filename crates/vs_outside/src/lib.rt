@@ -9,6 +9,7 @@ pub mod laws;
 mod mem_host;
 mod mem_io;
 mod mem_stream;
+mod passed;
 mod peer_host;
 
 pub use host_net::{Accepted, Dialed, HostNet, Started, StreamRead, StreamState, StreamWrite};

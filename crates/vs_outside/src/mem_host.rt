@@ -177,7 +177,8 @@ impl MemHost {
         Ok(self.streams.len() as u64)
     }
 
-    /// The host's program writes bytes to a stream. Where there is no memory for them, all is as before.
+    /// The host's program writes bytes to a stream. Where there is no memory for them, or all that it wrote there can't be counted in 64
+    /// bits, all is as before.
     #[tactic(auto, using(crate::proofs::Streams::stream_there, crate::proofs::Streams::set_same))]
     pub fn host_write(&mut self, id: u64, bytes: &[u8]) -> Result<HostWritten, AllocError>
         ensures answer { IfOk result (λ answer. answer ≡ host_write_answer id self.old.contents) }

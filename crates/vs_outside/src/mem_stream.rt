@@ -1,18 +1,15 @@
 //! A stream of a host in memory.
-ghost use Rattle.std.specs.{Prelude.{◌≡◌, ◌≤◌, ◌<◌, ◌-◌, ◌==◌, ◌++◌, ◌||◌, true, if◌then◌else◌, length, min, take, position, IfSome, IfOk, OnOk, OnErr, is_none}, Option.option_map};
+ghost use Rattle.std.specs.{Prelude.{◌≡◌, ◌≤◌, ◌+◌, ◌-◌, ◌++◌, drop, length, min, take, IfOk, OnOk, OnErr, is_none}, Option.option_map};
 ghost use Rattle.vs_outside.specs.{Host.{dialed_stream, is_waiting, read_of, taken_of, write_of}, HostProgram.{plain, client_stream, ReadsStream, stream_after_write, is_over}};
-ghost use Rattle.vs_outside.specs.{HostProgram.{with_bytes, changed}, HostBytes.{after_line, has_line, wrote_after_connect, read_after_ok}};
+ghost use Rattle.vs_outside.specs.{HostProgram.{with_bytes, changed}, HostBytes.{wrote_after_connect, read_after_ok}};
 ghost use Rattle.vs_excerpt.specs.Excerpt.{excerpt_of};
 
 use crate::host_net::{StreamRead, StreamState, StreamWrite};
+use crate::passed::Passed;
 use std::alloc::{AllocError, Global};
 use std::marker::Model;
 use vs_excerpt::Excerpt;
-use vs_excerpt::bytes_given::{BytesGiven, Piece};
 use vs_flow::Flow;
-
-/// The byte that ends a line, LF.
-const LINE_END: u8 = b'\n';
 
 /// What the host's program is answered when it writes to a stream.
 #[derive(Clone, Copy, Debug, PartialEq, Eq)]
@@ -78,28 +75,27 @@ impl PreparedStream {
     }
 }
 
-/// A stream of a host in memory. Of the bytes that the proxy gave it it keeps an excerpt, and no more.
+/// A stream of a host in memory. Of the bytes that the proxy gave it, and of those that it took, it keeps an excerpt, and no more.
 #[derive(Drop)]
 pub struct MemStream {
     label: Option<Flow>,
     by_client: bool,
     state: StreamState,
-    /// All bytes that the host's program wrote, of which the proxy took the first `at`.
+    /// Bytes that the host's program wrote, of which the proxy took the first `at`. Others that it took before aren't kept.
     written: Vec<u8>,
     at: usize,
+    /// How many bytes the host's program wrote in all.
+    total: u64,
     ended: bool,
-    given: BytesGiven,
-    /// What is kept of the bytes that the host's program was given to read, without the OK line that a client gets.
-    read: Excerpt,
-    /// Whether no byte of an OK line is to come: the line is whole, or the proxy dialled the stream.
-    line_over: bool,
+    taken: Passed,
+    given: Passed,
     room: Option<usize>,
     host_closed: bool,
     write_shut: bool,
 }
 
 impl Model for MemStream {
-    ghost use Rattle.std.specs.Prelude.{◌≤◌, false, take, drop, vec_len};
+    ghost use Rattle.std.specs.Prelude.{◌≡◌, ◌≤◌, ◌+◌, false, drop, length, vec_len};
     ghost use Rattle.vs_outside.specs.{Host.Stream, KeptBytes.IsKept};
 
     ghost Value = { Stream };
@@ -108,17 +104,19 @@ impl Model for MemStream {
       label = s.label;
       by_client = s.by_client;
       state = s.state;
-      taken = take s.at s.written.items;
+      taken = s.taken.bytes.items;
       untaken = drop s.at s.written.items;
       ended = s.ended;
-      given = s.given.items;
+      given = s.given.bytes.items;
       room = s.room;
       echoes = false;
       host_closed = s.host_closed;
       write_shut = s.write_shut;
     } };
 
-    ghost invariant = { λ s. (s.at ≤ vec_len s.written) × IsKept s.by_client s.given.items s.read s.line_over };
+    ghost invariant = { λ s. (s.at ≤ vec_len s.written) × (s.total + s.at ≡ length s.taken.bytes.items + vec_len s.written)
+        × IsKept s.by_client s.taken.bytes.items s.taken.kept s.taken.line_over
+        × IsKept s.by_client s.given.bytes.items s.given.kept s.given.line_over };
 }
 
 impl MemStream {
@@ -132,10 +130,10 @@ impl MemStream {
             state: StreamState::Waiting,
             written: Vec::new(alloc),
             at: 0,
+            total: 0,
             ended: false,
-            given: BytesGiven::new(),
-            read: Excerpt::none(),
-            line_over: false,
+            taken: Passed::none(false),
+            given: Passed::none(false),
             room: None,
             host_closed: false,
             write_shut: false,
@@ -156,10 +154,10 @@ impl MemStream {
             state: StreamState::Open,
             written: Vec::from_slice(alloc, &prepared.bytes)?,
             at: 0,
+            total: prepared.bytes.len() as u64,
             ended: prepared.ended,
-            given: BytesGiven::new(),
-            read: Excerpt::none(),
-            line_over: true,
+            taken: Passed::none(true),
+            given: Passed::none(true),
             room: prepared.room,
             host_closed: prepared.closed,
             write_shut: false,
@@ -187,13 +185,6 @@ impl MemStream {
         self.state
     }
 
-    /// The bytes that the proxy took of the stream.
-    pub fn taken(&self) -> &[u8]
-        ensures { result.now ≡ self.now.taken }
-    {
-        &self.written[..self.at]
-    }
-
     /// The bytes that the host's program wrote and the proxy hasn't taken yet.
     pub fn untaken(&self) -> &[u8]
         ensures { result.now ≡ self.now.untaken }
@@ -208,22 +199,18 @@ impl MemStream {
         self.write_shut
     }
 
-    /// What the host's program wrote and the proxy took, without the CONNECT line of a client.
-    pub fn wrote_after_connect(&self) -> &[u8]
-        ensures { result.now ≡ wrote_after_connect self.now }
+    /// What is kept of what the host's program wrote and the proxy took, without the CONNECT line of a client.
+    pub fn wrote_after_connect(&self) -> &Excerpt
+        ensures { result.now ≡ excerpt_of (wrote_after_connect self.now) }
     {
-        if self.by_client {
-            after_line(self.taken())
-        } else {
-            self.taken()
-        }
+        &self.taken.kept
     }
 
     /// What is kept of what the host's program was given to read, without the OK line that a client gets.
     pub fn read_after_ok(&self) -> &Excerpt
         ensures { result.now ≡ excerpt_of (read_after_ok self.now) }
     {
-        &self.read
+        &self.given.kept
     }
 
     /// Whether a client made the stream and it isn't accepted yet.
@@ -274,6 +261,7 @@ impl MemStream {
             };
         }
         let n = copy_front(left, out);
+        self.taken.pass(&self.written[self.at..self.at + n]);
         self.at += n;
         StreamRead::Got(n)
     }
@@ -313,13 +301,10 @@ impl MemStream {
         ensures ok { OnOk result (self.new ≡ record self.old { given = self.old.given ++ bytes.now }) }
         ensures err { OnErr result (self.new ≡ self.old) }
     {
-        let read = behind_ok(self.line_over, bytes);
-        if self.read.count > u64::MAX - read.len() as u64 {
+        if !self.given.has_room_for(bytes.len()) {
             return Err(AllocError);
         }
-        self.read = self.read.then(read);
-        self.line_over = is_line_over(self.line_over, bytes);
-        self.given = self.given.then(&Piece { bytes });
+        self.given.pass(bytes);
         Ok(())
     }
 
@@ -330,13 +315,42 @@ impl MemStream {
         self.ended || self.state == StreamState::Closed
     }
 
-    /// The host's program writes bytes. Where there is no memory for them, all is as before.
+    /// The host's program writes bytes. Where there is no memory for them, or all that it wrote can't be counted in 64 bits, all is as
+    /// before.
     pub(crate) fn append(&mut self, bytes: &[u8]) -> Result<(), AllocError>
         ensures ok { OnOk result (self.new ≡ with_bytes bytes.now self.old) }
         ensures err { OnErr result (self.new ≡ self.old) }
     {
-        self.written.extend_from_slice(bytes)
+        self.forget_taken();
+        let Some(total) = self.total.checked_add(bytes.len() as u64) else {
+            return Err(AllocError);
+        };
+        self.written.extend_from_slice(bytes)?;
+        self.total = total;
+        Ok(())
     }
+
+    /// Drops what is left of the bytes that the proxy took, where that moves no more bytes than it drops.
+    fn forget_taken(&mut self)
+        ensures { self.new ≡ self.old }
+    {
+        if self.written.len() - self.at <= self.at {
+            drop_front(&mut self.written, self.at);
+            self.at = 0;
+        }
+    }
+}
+
+/// Drops the first bytes, at least as many as are left.
+fn drop_front(bytes: &mut Vec<u8>, at: usize)
+    requires part { at ≤ length bytes.old.items }
+    requires fits { length bytes.old.items ≤ at + at }
+    ensures { bytes.new.items ≡ drop at bytes.old.items }
+{
+    let left = bytes.len() - at;
+    let (front, back) = bytes.split_at_mut(at);
+    front[..left].copy_from_slice(back);
+    bytes.truncate(left);
 }
 
 /// What is left of the room for bytes, where there is a limit, after so many were taken.
@@ -347,45 +361,6 @@ fn room_left(room: Option<usize>, n: usize) -> Option<usize>
         Some(room) => Some(room.saturating_sub(n)),
         None => None,
     }
-}
-
-/// What the host's program reads of bytes that come next: all of them once the OK line is over.
-fn behind_ok(line_over: bool, bytes: &[u8]) -> &[u8]
-    ensures { result.now ≡ (if line_over then bytes.now else after_line bytes.now) }
-{
-    if line_over { bytes } else { after_line(bytes) }
-}
-
-/// Whether the OK line is over once these bytes came.
-fn is_line_over(line_over: bool, bytes: &[u8]) -> bool
-    ensures { result ≡ (line_over || has_line bytes.now) }
-{
-    line_over || has_line(bytes)
-}
-
-/// Whether a line ends in the bytes.
-fn has_line(bytes: &[u8]) -> bool
-    ensures { result ≡ has_line bytes.now }
-{
-    bytes.iter().any(|b| *b == LINE_END)
-}
-
-/// The bytes after the first line; none while the line isn't whole.
-fn after_line(bytes: &[u8]) -> &[u8]
-    ensures { result.now ≡ after_line bytes.now }
-{
-    match line_end(bytes) {
-        Some(place) => bytes.split_at(place + 1).1,
-        None => &[],
-    }
-}
-
-/// Where the first LF stands.
-fn line_end(bytes: &[u8]) -> Option<usize>
-    ensures first { result ≡ position (λ b. b == LINE_END) bytes.now }
-    ensures within { IfSome result (λ place. place < length bytes.now) }
-{
-    bytes.iter().position(|b| *b == LINE_END)
 }
 
 /// Copies the first bytes of `from` to the front of `out`, as many as there are and as there is room for.

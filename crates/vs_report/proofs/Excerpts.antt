@@ -1,10 +1,9 @@
 -- What is printed by an excerpt of bytes.
-use Rattle.std.proofs.Common.{◌≡◌, ◌≤◌, ◌-◌, ◌++◌, ◌==◌, ℕ, nat_le, Bool, true, false, cond, Option, Some, None, List, [], ◌∷◌, codes, decimal, length, take, drop, refl, ap, ◌∙◌, arith, append_assoc}
+use Rattle.std.proofs.Common.{◌≡◌, ◌≤◌, ◌-◌, ◌++◌, ◌==◌, ℕ, nat_le, Bool, true, false, cond, List, [], ◌∷◌, codes, decimal, length, take, drop, refl, ap, ◌∙◌, arith, append_assoc}
 use Rattle.std.proofs.lemmas.{Bool.Decides.nat_tests, List.take_all}
 use Rattle.hex.specs.Hex.{encode_lower}
 use Rattle.vs_excerpt.{specs.{Excerpt.{back_of, excerpt_of, front_of}, declared.TheConstants.{AT_EACH_END, MAX_IN_FULL}}, proofs.Keeping.{shown_back, shown_front}}
-use Rattle.vs_flow.specs.declared.flow.Flow.{Flow}
-use Rattle.vs_report.specs.{Bytes.{counted_text, data_text, excerpt_text, shown_text}, Report.{labelled_shown_text, labelled_text}}
+use Rattle.vs_report.specs.Bytes.{counted_text, data_text, excerpt_text, shown_text}
 
 same_some : (b : Bool) (bytes : List ℕ) → nat_le (length bytes) MAX_IN_FULL ≡ b
     → cond b (encode_lower (take (length bytes) (front_of bytes)))
@@ -30,13 +29,6 @@ same_shown (byte ∷ bytes) = some (length (byte ∷ bytes) == 0) (grind (arith,
 
 pub same_text : (bytes : List ℕ) → excerpt_text (excerpt_of bytes) ≡ counted_text bytes
 same_text bytes = ap (λ (xs : List ℕ). decimal (length bytes) ++ codes " " ++ xs) (same_shown bytes)
-
-pub same_labelled : (label : Option Flow) (wrote read : List ℕ)
-    → labelled_shown_text label wrote (excerpt_of read) ≡ labelled_text label wrote read
-same_labelled (Some f) wrote read =
-    ap (λ (text : List ℕ). decimal f.guest ++ codes " " ++ decimal f.host ++ codes " wrote " ++ counted_text wrote ++ codes " read " ++ text ++ codes "\n")
-    (same_text read)
-same_labelled None wrote read = refl
 
 -- A text behind a number and a space.
 pub behind_number : (text old number space more : List ℕ) → text ≡ old ++ number

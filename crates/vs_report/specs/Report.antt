@@ -1,10 +1,9 @@
 -- The report behind the last line of a play, each line with its LF.
 use Rattle.std.specs.Prelude.{ℕ, ◌+◌, List, [], ◌∷◌, ◌++◌, codes, decimal, Option, Some, None}
 use Rattle.vs_device_parts.specs.declared.answers.Counters.{Counters}
-use Rattle.vs_excerpt.specs.declared.Excerpt.{Excerpt}
 use Rattle.vs_flow.specs.declared.flow.Flow.{Flow}
 use Rattle.vs_outside.specs.{Host.Stream, HostBytes.wrote_after_connect, HostBytes.read_after_ok}
-use Rattle.vs_report.specs.{Bytes.{counted_text, excerpt_text}, declared.giving.Totals.Totals}
+use Rattle.vs_report.specs.{Bytes.counted_text, declared.giving.Totals.Totals}
 
 -- How many entries each table has.
 abbrev pub guest_open_text : ℕ → List ℕ
@@ -15,26 +14,17 @@ device_open_text n = codes "device open " ++ decimal n ++ codes "\n"
 
 -- A stream: its number, its label's guest port and host port, what its program wrote behind a CONNECT line and the proxy took, and what
 -- its program was given to read behind an OK line. A stream without a label has nothing of it.
-abbrev pub flow_bytes_text : Flow → List ℕ → List ℕ → List ℕ
-flow_bytes_text f wrote read =
-    decimal f.guest ++ codes " " ++ decimal f.host ++ codes " wrote " ++ counted_text wrote ++ codes " read " ++ counted_text read ++ codes "\n"
+abbrev pub flow_text : Flow → List ℕ → List ℕ → List ℕ
+flow_text f wrote read = decimal f.guest ++ codes " " ++ decimal f.host ++ codes " wrote " ++ wrote ++ codes " read " ++ read ++ codes "\n"
 
 abbrev pub labelled_text : Option Flow → List ℕ → List ℕ → List ℕ
-labelled_text (Some f) wrote read = flow_bytes_text f wrote read
+labelled_text (Some f) wrote read = flow_text f wrote read
 labelled_text None wrote read = codes "- - wrote 0 - read 0 -\n"
-
--- The same by an excerpt of what was read.
-abbrev pub flow_shown_text : Flow → List ℕ → Excerpt → List ℕ
-flow_shown_text f wrote read =
-    decimal f.guest ++ codes " " ++ decimal f.host ++ codes " wrote " ++ counted_text wrote ++ codes " read " ++ excerpt_text read ++ codes "\n"
-
-abbrev pub labelled_shown_text : Option Flow → List ℕ → Excerpt → List ℕ
-labelled_shown_text (Some f) wrote read = flow_shown_text f wrote read
-labelled_shown_text None wrote read = codes "- - wrote 0 - read 0 -\n"
 
 abbrev pub stream_text : ℕ → Stream → List ℕ
 stream_text number s =
-    codes "stream " ++ decimal number ++ codes " " ++ labelled_text s.label (wrote_after_connect s) (read_after_ok s)
+    codes "stream " ++ decimal number ++ codes " "
+    ++ labelled_text s.label (counted_text (wrote_after_connect s)) (counted_text (read_after_ok s))
 
 -- Those of all streams, numbered from there on.
 abbrev pub stream_texts : ℕ → List Stream → List (List ℕ)

@@ -20,15 +20,6 @@ pub fn push_data(out: &mut String, bytes: &[u8]) -> Result<(), AllocError>
     }
 }
 
-/// Appends how many bytes there are, and the bytes as they are printed.
-pub fn push_counted(out: &mut String, bytes: &[u8]) -> Result<(), AllocError>
-    ensures { OnOk result (string_bytes out.new ≡ string_bytes out.old ++ counted_text bytes.now) }
-{
-    push_number(out, "", bytes.len() as u64)?;
-    out.push_str(" ")?;
-    push_data(out, bytes)
-}
-
 /// Appends how many bytes there are, and the bytes as they are printed, by an excerpt of them.
 pub fn push_excerpt(out: &mut String, excerpt: &Excerpt) -> Result<(), AllocError>
     ensures { OnOk result (string_bytes out.new ≡ string_bytes out.old ++ excerpt_text excerpt.now) }

@@ -1,9 +1,9 @@
 //! The report behind the last line of a play.
 
 ghost use Rattle.std.specs.Prelude.{◌≡◌, ◌++◌, OnOk, string_bytes, codes};
-ghost use Rattle.vs_report.specs.{Bytes.excerpt_text, Report.{guest_open_text, device_open_text, stream_text, flow_shown_text, labelled_shown_text, broken_text, counts_text}};
+ghost use Rattle.vs_report.specs.{Bytes.excerpt_text, Report.{guest_open_text, device_open_text, stream_text, flow_text, labelled_text, broken_text, counts_text}};
 
-use crate::bytes::{push_counted, push_excerpt};
+use crate::bytes::push_excerpt;
 use crate::number::{push_last, push_number};
 use std::alloc::AllocError;
 use vs_device_parts::answers::Counters;
@@ -44,30 +44,30 @@ pub fn push_stream(out: &mut String, number: u64, stream: &MemStream) -> Result<
 fn push_labelled(
     out: &mut String,
     label: Option<Flow>,
-    wrote: &[u8],
+    wrote: &Excerpt,
     read: &Excerpt,
 ) -> Result<(), AllocError>
-    ensures { OnOk result (string_bytes out.new ≡ string_bytes out.old ++ labelled_shown_text label wrote.now read.now) }
+    ensures { OnOk result (string_bytes out.new ≡ string_bytes out.old ++ labelled_text label (excerpt_text wrote.now) (excerpt_text read.now)) }
 {
     match label {
-        Some(flow) => push_flow_bytes(out, flow, wrote, read),
+        Some(flow) => push_flow(out, flow, wrote, read),
         None => out.push_str("- - wrote 0 - read 0 -\n"),
     }
 }
 
 // The ports of a stream's label, and what its program wrote and read.
-fn push_flow_bytes(
+fn push_flow(
     out: &mut String,
     flow: Flow,
-    wrote: &[u8],
+    wrote: &Excerpt,
     read: &Excerpt,
 ) -> Result<(), AllocError>
-    ensures { OnOk result (string_bytes out.new ≡ string_bytes out.old ++ flow_shown_text flow wrote.now read.now) }
+    ensures { OnOk result (string_bytes out.new ≡ string_bytes out.old ++ flow_text flow (excerpt_text wrote.now) (excerpt_text read.now)) }
 {
     push_number(out, "", flow.guest as u64)?;
     push_number(out, " ", flow.host as u64)?;
     out.push_str(" wrote ")?;
-    push_counted(out, wrote)?;
+    push_excerpt(out, wrote)?;
     push_read(out, read)
 }
 
