@@ -7,6 +7,13 @@ use std::time::Instant;
 /// How many numbers each row passes.
 const COUNT: u32 = 1_000_000;
 
+/// A moment in which no memory is touched that the other thread writes: the clock is read.
+fn look_again() {
+    for _ in 0..READINGS {
+        std::hint::black_box(Instant::now());
+    }
+}
+
 struct Page {
     bytes: Box<[u8; 4096]>,
     used: usize,
@@ -190,7 +197,7 @@ fn two(
                 if give(number) {
                     number += 1;
                 } else {
-                    std::hint::spin_loop();
+                    look_again();
                 }
             }
         });
@@ -201,7 +208,7 @@ fn two(
                     right += is as u32;
                     number += 1;
                 }
-                None => std::hint::spin_loop(),
+                None => look_again(),
             }
         }
         right

@@ -47,8 +47,8 @@ impl DeviceSide {
         self.port.size as u16
     }
 
-    /// Takes the page that the driver gave first of those not yet taken, as a chain, by an index that it loads. `None` comes exactly where
-    /// that index shows as many pages as were taken: then all that it was told of is among them.
+    /// Takes the page that the driver gave first of those not yet taken, as a chain. The available index is loaded where all pages that it
+    /// showed before were taken. `None` comes exactly where it then shows as many pages as were taken: all that it was told of is among them.
     #[inline(always)]
     pub fn take_next(&mut self, queue: Queue) -> Option<Chain>
         ensures none { IfNone result (TakesNone queue self.old self.new) }

@@ -100,8 +100,8 @@ impl DriverSide {
         }
     }
 
-    /// Takes back the page that the device gave back first of those not yet taken, by an index that it loads. `None` comes exactly where
-    /// that index shows as many pages as were taken: then all that it was told of is among them.
+    /// Takes back the page that the device gave back first of those not yet taken. The used index is loaded where all pages that it showed
+    /// before were taken. `None` comes exactly where it then shows as many pages as were taken: all that it was told of is among them.
     #[inline(always)]
     pub fn reap_page(&mut self, queue: Queue) -> Option<Page>
         ensures none { IfNone result (ReapsNone queue self.old self.new) }

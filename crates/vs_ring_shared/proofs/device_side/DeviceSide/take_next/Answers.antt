@@ -54,7 +54,7 @@ invariant_of-self-in-Tx c =
           c.self.invariant.0
           (subst (λ (q : Queue). DeviceTakesChain d.port.size q c.in_ok-chain-in-Tx.chain me p.token.me call.new.numbers d.held call.new.held)
           c.in-Tx.is b),
-      counts_turn d.port.size c.args.queue (took_queue b.takes.shown b.page) (b.slot ∷ (queue_in c.args.queue me.0).held)
+      counts_turn d.port.size c.args.queue (took_queue b.takes.look b.page) (b.slot ∷ (queue_in c.args.queue me.0).held)
           (entries_taken c.args.queue b.page me.0.log) me p.token.me call.new.numbers counters b.takes.turns
           (subst (λ (q : Queue). CountsDevice (entries_taken q b.page me.0.log) counters) (sym c.in-Tx.is)
           (count_taken me.0.log d.counters counters c.self.invariant.1 b.page (ap one more))),

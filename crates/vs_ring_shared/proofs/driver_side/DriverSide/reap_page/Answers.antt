@@ -27,7 +27,7 @@ invariant_of-self-in-Rx c =
     let back = c.in_ok-page-in-Rx.ensures.back in
     let w : ℕ = 18446744073709551616 in
     let counters : DriverCounters = record d.counters { rx_got = (d.counters.rx_got + c.packets_in.result) % w } in
-    let f = took_queue back.shown page in
+    let f = took_queue back.look page in
     let fair = subst (λ (q : Queue). IsFairLog log.Driver (entries_reaped q (Some page) me.0.log)) c.in-Rx.is back.fair in
     let goes = subst (λ (q : Queue). Goes d.port.size q f (entries_reaped q (Some page) me.0.log) me p.token.me call.new.numbers)
     c.in-Rx.is back.goes in (
@@ -68,7 +68,7 @@ invariant_of-self-in-Event c =
     let back = c.in_ok-page-in-Event.ensures.back in
     let w : ℕ = 18446744073709551616 in
     let counters : DriverCounters = record d.counters { ev_got = (d.counters.ev_got + c.events_in.result) % w } in
-    let f = took_queue back.shown page in
+    let f = took_queue back.look page in
     let fair = subst (λ (q : Queue). IsFairLog log.Driver (entries_reaped q (Some page) me.0.log)) c.in-Event.is back.fair in
     let goes = subst (λ (q : Queue). Goes d.port.size q f (entries_reaped q (Some page) me.0.log) me p.token.me call.new.numbers)
     c.in-Event.is back.goes in (
