@@ -363,6 +363,7 @@ impl HostNet for MemHost {
         self.labelled.push_reserved(id);
     }
 
+    #[inline(always)]
     fn read(&mut self, id: u64, out: &mut [u8]) -> StreamRead
         requires { IsOpen id self.old.contents }
         ensures some { ReadsSome result (length out.new) }

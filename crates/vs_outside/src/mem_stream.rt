@@ -1,6 +1,6 @@
 //! A stream of a host in memory.
 ghost use Rattle.std.specs.{Prelude.{◌≡◌, ◌≤◌, ◌+◌, ◌-◌, ◌++◌, drop, length, min, take, IfOk, OnOk, OnErr, is_none}, Option.option_map};
-ghost use Rattle.vs_outside.specs.{Host.{dialed_stream, is_waiting, read_of, taken_of, write_of}, HostProgram.{plain, client_stream, ReadsStream, stream_after_write, is_over}};
+ghost use Rattle.vs_outside.specs.{Host.{dialed_stream, is_waiting, read_of, take_bytes, taken_of, write_of}, HostProgram.{plain, client_stream, ReadsStream, stream_after_write, is_over}};
 ghost use Rattle.vs_outside.specs.{HostProgram.{with_bytes, changed}, HostBytes.{wrote_after_connect, read_after_ok}};
 ghost use Rattle.vs_excerpt.specs.Excerpt.{excerpt_of};
 
@@ -247,23 +247,33 @@ impl MemStream {
     }
 
     /// The proxy reads the next bytes into the front of `out`.
-    #[tactic(auto, using(crate::proofs::Bytes::take_more, crate::proofs::Bytes::drop_more))]
+    #[inline(always)]
     pub(crate) fn read(&mut self, out: &mut [u8]) -> StreamRead
         ensures answer { result ≡ read_of (length out.old) self.old }
         ensures reads { ReadsStream result out.new self.old self.new }
     {
-        let left = self.untaken();
-        if left.is_empty() {
+        if self.untaken().is_empty() {
             return if self.ended {
                 StreamRead::End
             } else {
                 StreamRead::Again
             };
         }
-        let n = copy_front(left, out);
+        StreamRead::Got(self.take_front(out))
+    }
+
+    /// The proxy takes the next bytes into the front of `out`. Of most streams, most of the time, there are none.
+    #[tactic(auto, using(crate::proofs::Bytes::take_more, crate::proofs::Bytes::drop_more))]
+    #[inline(never)]
+    fn take_front(&mut self, out: &mut [u8]) -> usize
+        ensures count { result ≡ min (length out.old) (length self.old.untaken) }
+        ensures front { take result out.new ≡ take result self.old.untaken }
+        ensures after { self.new ≡ take_bytes result self.old }
+    {
+        let n = copy_front(self.untaken(), out);
         self.taken.pass(&self.written[self.at..self.at + n]);
         self.at += n;
-        StreamRead::Got(n)
+        n
     }
 
     /// How many of `n` bytes the stream takes now.
