@@ -25,6 +25,10 @@ const LONGER_PAUSES: u32 = 10;
 /// share it until one of them sleeps.
 const FIRST_SLEEPS: u64 = 4;
 
+/// A pause behind more steps or turns than these since the last one is a sleep in any case: where so much moves at once, as much comes meanwhile.
+/// A queue of 16 pages, all of which would have moved long before the sleep is over, gives at most 17.
+const MANY_STEPS: u32 = 18;
+
 /// A gate that holds nothing up, for one thread. A step that moved nothing is made again at once, and where some of these are in a row the
 /// thread sleeps the longer the more they are, so that one that waits for long takes next to no processor time.
 ///
@@ -75,14 +79,14 @@ impl<R: Clock> BackoffGate<R> {
         gate
     }
 
-    // Whether anything moved since the last pause.
-    fn has_moved(&mut self) -> bool
+    // Whether anything moved since the last pause, behind which there were so many steps and turns.
+    fn has_moved(&mut self, steps: u32) -> bool
         ensures { self.new ≡ self.old }
     {
         let moved = self.moves.as_ref().map_or(0, |moves| moves.count());
         let more = moved != self.moved;
         self.moved = moved;
-        self.steps.replace(0) > 1 || more
+        steps > 1 || more
     }
 
     // One more step or turn.
@@ -106,10 +110,11 @@ impl<R: Clock> Gate for BackoffGate<R> {
 
     fn pause(&mut self) {
         self.pauses = self.pauses.saturating_add(1);
-        if self.has_moved() {
+        let steps = self.steps.replace(0);
+        if self.has_moved(steps) {
             self.row = 0;
         }
-        match sleeps_behind(self.pauses, self.row) {
+        match sleeps_behind(self.pauses, steps, self.row) {
             None => look_again(&self.rt),
             Some(sleeps) => thread::sleep(&self.rt, sleep_behind(sleeps)),
         }
@@ -125,9 +130,10 @@ fn look_again<R: Clock>(rt: &R) {
     }
 }
 
-// Behind how many sleeps in a row the next pause sleeps, or none where it looks again: it is one of so many pauses, behind so many in a row.
-fn sleeps_behind(pauses: u64, row: u32) -> Option<u32> {
-    if pauses <= FIRST_SLEEPS {
+// Behind how many sleeps in a row the next pause sleeps, or none where it looks again: it is one of so many pauses, behind so many steps and turns
+// and behind so many pauses in a row.
+fn sleeps_behind(pauses: u64, steps: u32, row: u32) -> Option<u32> {
+    if pauses <= FIRST_SLEEPS || steps > MANY_STEPS {
         Some(0)
     } else {
         row.checked_sub(LOOKS)
