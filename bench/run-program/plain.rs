@@ -1,27 +1,32 @@
-//! The host's end of bench/run, with calls of 4,096 bytes. Each prints how many bytes passed, and the seconds from the first to the last.
+//! The host's end of bench/run, and its raw copy, with calls of 4,096 bytes. Each prints how many bytes passed, and the seconds from the first to
+//! the last.
 //!
-//! plain pair BYTES: a copy over a socket pair, between two threads.
+//! plain fill BYTES: writes to the socket that is its standard input, and closes it.
+//! plain drain BYTES: reads from the socket that is its standard input, to the end.
 //! plain read PATH BYTES: listens at PATH, and reads of its one client to the end.
 //! plain write PATH BYTES: connects to PATH, asks for port 52 until it is answered by OK, writes, and reads to the end.
 //! plain sleep THREADS SLEEPS: so many threads, each of which sleeps a millisecond so many times.
 
 use std::env;
 use std::io::{self, Read, Write};
+use std::os::fd::AsFd;
 use std::os::unix::net::{UnixListener, UnixStream};
 use std::thread;
 use std::time::{Duration, Instant};
 
 const PIECE: usize = 4096;
 
-fn read_all(stream: &mut UnixStream) -> io::Result<usize> {
+/// Reads to the end: how many bytes, and how long from the first of them on.
+fn read_all(stream: &mut UnixStream) -> io::Result<(usize, Duration)> {
     let mut piece = [0; PIECE];
-    let mut count = 0;
-    loop {
-        match stream.read(&mut piece)? {
-            0 => return Ok(count),
-            n => count += n,
-        }
+    let mut count = stream.read(&mut piece)?;
+    let begun = Instant::now();
+    let mut more = count;
+    while more > 0 {
+        more = stream.read(&mut piece)?;
+        count += more;
     }
+    Ok((count, begun.elapsed()))
 }
 
 fn write_all(stream: &mut UnixStream, bytes: usize) -> io::Result<()> {
@@ -33,20 +38,24 @@ fn write_all(stream: &mut UnixStream, bytes: usize) -> io::Result<()> {
     Ok(())
 }
 
-fn pair(bytes: usize) -> io::Result<(usize, Duration)> {
-    let (mut one, mut other) = UnixStream::pair()?;
+/// The socket that is standard input.
+fn given() -> io::Result<UnixStream> {
+    Ok(io::stdin().as_fd().try_clone_to_owned()?.into())
+}
+
+fn fill(bytes: usize) -> io::Result<(usize, Duration)> {
     let begun = Instant::now();
-    let writer = thread::spawn(move || write_all(&mut one, bytes));
-    let count = read_all(&mut other)?;
-    writer.join().expect("the writer ends")?;
-    Ok((count, begun.elapsed()))
+    write_all(&mut given()?, bytes)?;
+    Ok((bytes, begun.elapsed()))
+}
+
+fn drain() -> io::Result<(usize, Duration)> {
+    read_all(&mut given()?)
 }
 
 fn read(path: &str) -> io::Result<(usize, Duration)> {
     let (mut stream, _) = UnixListener::bind(path)?.accept()?;
-    let begun = Instant::now();
-    let count = read_all(&mut stream)?;
-    Ok((count, begun.elapsed()))
+    read_all(&mut stream)
 }
 
 /// A connection that was answered. Until an app listens, clients are closed without an answer.
@@ -91,11 +100,12 @@ fn main() -> io::Result<()> {
     let words: Vec<&str> = words.iter().map(String::as_str).collect();
     let bytes = words.last().and_then(|it| it.parse().ok()).expect("how many");
     let (count, took) = match words[..] {
-        ["pair", _] => pair(bytes)?,
+        ["fill", _] => fill(bytes)?,
+        ["drain", _] => drain()?,
         ["read", path, _] => read(path)?,
         ["write", path, _] => write(path, bytes)?,
         ["sleep", threads, _] => sleep(threads.parse().expect("how many threads"), bytes)?,
-        _ => return Err(io::Error::other("pair BYTES, read PATH BYTES, write PATH BYTES or sleep THREADS SLEEPS")),
+        _ => return Err(io::Error::other("fill BYTES, drain BYTES, read PATH BYTES, write PATH BYTES or sleep THREADS SLEEPS")),
     };
     println!("{count} {}", took.as_secs_f64());
     Ok(())

@@ -1,15 +1,14 @@
 -- Whole calls leave no page staged; nor does the opening of the world.
 use Rattle.std.proofs.lemmas.Grind.{common_steps}
-use Rattle.std.proofs.Common.{◌≡◌, ℕ, zero, suc, ◌+◌, ◌==◌, Bool, true, false, cond, List, [], length, Option, Some, None, Result, Ok, Err, refl, ap, ◌∙◌, arith}
+use Rattle.std.proofs.Common.{◌≡◌, ℕ, zero, suc, ◌+◌, ◌==◌, Bool, true, false, cond, List, [], length, Option, Some, None, Result, Ok, Err, arith}
 use Rattle.vs_contents.specs.CallTree.{Done, Ask, bind, played, while_up_to}
 use Rattle.vs_conn.specs.{End.{may_send_of, wanting_credit}, declared.end.Stop.Stop}
 use Rattle.vs_outside.specs.Host.{HostContents}
 use Rattle.vs_limits.specs.declared.TheConstants.{HOST_CID}
-use Rattle.vs_ring_list.specs.Ends.{empty_ends}
 use Rattle.vs_ring_port.specs.{DriverCalls.{Publish, Stage, driver_answer}, EndLog.{EndLog}, Lists.Rings, declared.queue.Queue.Queue}
 use Rattle.vs_driver_parts.specs.{State.{DriverEntry, DriverState, entry_known_as}, declared.answers.{ConnectError.ConnectError, Sent.Sent}, Connections.connect_refusal}
-use Rattle.vs_driver_parts.specs.{Connections.{with_end}, Conversations.{DriverTree, connect_with_page, load_cid, new_state, no_credit, not_sent}}
-use Rattle.vs_driver_parts.specs.Conversations.{payload_of, post_all, post_events, post_one, posts, publish_of, reap_all, send_on}
+use Rattle.vs_driver_parts.specs.{Connections.{with_end}, Conversations.{DriverTree, connect_with_page, no_credit, not_sent}}
+use Rattle.vs_driver_parts.specs.Conversations.{payload_of, post_all, post_one, reap_all, send_on}
 use Rattle.vs_driver_parts.specs.Conversations.{send_stopped, send_with_credit, send_with_page}
 use Rattle.laws_world.{specs.{Events.{is_at_rest, works_on}, Plays.guest_line, World.{Beginning, World, opening}}, proofs.GuestLines.{played_bind, reaps_all}}
 use Rattle.laws_world.proofs.Polls.{published_rests, rest_works}
@@ -33,11 +32,7 @@ send_rests e payload s = grind (arith, common_steps)
 module _ (w : World) (rest : is_at_rest w.rings.driver.staged ≡ true) where
   reaped_rests : {A : Type 0} (k : DriverState → DriverTree A) → ((s : DriverState) → LeavesRest (k s))
       → AtRest (played driver_answer (bind (reap_all w.driver) k) (w.rings.lists, w.rings.driver)).1
-  reaped_rests k leaves =
-      let r = played driver_answer (reap_all w.driver) (w.rings.lists, w.rings.driver) in
-      let reaps = reaps_all w.driver.in_flight w rest in
-      ap (λ x. is_at_rest x.1.1.staged) (played_bind (reap_all w.driver) k (w.rings.lists, w.rings.driver))
-      ∙ leaves r.0 r.1 (ap is_at_rest reaps.staged ∙ rest)
+  reaped_rests k leaves = grind (arith, common_steps, reaps_all, played_bind)
 
   connecting : (port : ℕ) (o : Option ConnectError)
       → AtRest (played driver_answer (elim o as (λ _. DriverTree (DriverState × Result ℕ ConnectError)) [
@@ -104,16 +99,7 @@ posts_work queue (suc n) s r works = by (s.staged + 1 == 16) (posts_work queue n
     by false rest = rest _ _ (stages queue [] r works)
 
 post_all_rests : (queue : Queue) (s : DriverState) → LeavesRest (post_all queue s)
-post_all_rests queue s r rest =
-    let x = played driver_answer (posts queue s) r in
-    ap (λ y. is_at_rest y.1.1.staged) (played_bind (posts queue s) (publish_of queue) r)
-    ∙ published_rests queue x.1.1.staged (posts_work queue s.size s r (rest_works queue r.1.staged rest))
+post_all_rests queue s r rest = grind (arith, common_steps, played_bind, published_rests, posts_work, rest_works)
 
 pub opening_rests : (b : Beginning) (host : HostContents) → is_at_rest (opening b host).rings.driver.staged ≡ true
-opening_rests b host =
-    let s = new_state b.pages b.first 1 0 in
-    let r : Rings × EndLog = ((empty_ends b.pages).lists, (empty_ends b.pages).driver) in
-    let x = played driver_answer (post_all q.Rx s) r in
-    ap (λ y. is_at_rest y.1.1.staged) (played_bind (post_all q.Rx s) post_events r)
-    ∙ ap (λ y. is_at_rest y.1.1.staged) (played_bind (post_all q.Event x.0) load_cid x.1)
-    ∙ post_all_rests q.Event x.0 x.1 (post_all_rests q.Rx s r refl)
+opening_rests b host = grind (arith, common_steps, played_bind, post_all_rests)

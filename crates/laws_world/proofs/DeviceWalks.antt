@@ -6,7 +6,7 @@ use Rattle.vs_contents.specs.CallTree.{Ask, Done, played}
 use Rattle.vs_header.specs.{Packet.header_of, declared.TheConstants.HEADER_LEN}
 use Rattle.laws_history.specs.declared.packet.Packet.{Packet}
 use Rattle.vs_outside.specs.Host.{HostContents, IsDialed, IsWritten, accept_answer, accept_failed, after_accept, after_close, after_dial, after_label, after_read, after_shut_write}
-use Rattle.vs_outside.specs.{Host.{after_write, dial_answer, dial_failed, fails_now, read_answer, read_failed, stream_at, write_answer, write_failed}, Faults.CountsFault}
+use Rattle.vs_outside.specs.{Host.{after_write, dial_answer, dial_failed, read_answer, read_failed, write_answer, write_failed}, Faults.CountsFault}
 use Rattle.vs_outside.specs.{Faults.one_more, declared.host_net.{Dialed.Dialed, StreamRead.StreamRead, StreamWrite.StreamWrite}}
 use Rattle.vs_page.specs.{Fair.IsFairLog, Held.{FitsWire, held_in, packet_held}, Log.{Device, IsNextPacket, Log}, declared.log.LogEntry.TheVariants.{GotPacket}}
 use Rattle.vs_ring_port.specs.{Chains.{Held, bytes_in, same_chain, with_bytes, without_held, held_of}, Contents.{DeviceAnswer, DeviceCall, Given, PublishCid, Read, Return}}
@@ -80,9 +80,7 @@ reads : (stream n : ℕ) (h : HostContents) (a : StreamRead) → read_answer str
 reads stream n h a is = grind (arith, common_steps)
 
 writes : (stream n : ℕ) (h : HostContents) (a : StreamWrite) → write_answer stream n h ≡ a → IsWritten stream n a h × TakesWithin n a
-writes stream n h (write.Took k) is = (sym is, write_short n k (fails_now h) (stream_at stream h) is)
-writes stream n h write.Failed is = (tt, tt)
-writes stream n h x is = (sym is, tt)
+writes stream n h x is = grind (arith, common_steps, write_short)
 
 module _ (base : Ends) (fit : PutsFit base.driver.entries) where
   abbrev ring : Around → RingContents
@@ -100,15 +98,7 @@ module _ (base : Ends) (fit : PutsFit base.driver.entries) where
   moved : (call : DeviceCall) (a : DeviceAnswer call) (P : Rings → Type 0) (f : Rings → Rings) (Q : EndLog → Type 0) (g : EndLog → EndLog) (s : Around)
       → P s.lists → Q s.log → IsFairLog Device (g s.log).entries
       → DeviceMoves call a P f Q g (ring s) (ring (record s { lists = f s.lists; log = g s.log }))
-  moved call a P f Q g s p q fair = record {
-    lists = (p, refl);
-    log = (q, refl);
-    other = refl;
-    plain = refl;
-    known = refl;
-    honest = refl;
-    fair = λ on l is. let same : g s.log ≡ l = cc in subst (λ (k : EndLog). IsFairLog Device k.entries) same fair;
-  }
+  moved call a P f Q g s p q fair = grind (arith, common_steps)
 
   -- A page is taken, or none.
   taken : (queue : Queue) (s : Around) → IsTied s.lists base.driver.entries s.log.entries

@@ -1,4 +1,5 @@
 -- The driver's conversations over list rings that are tied to the device's log: each is one that any ring may have.
+use Rattle.std.proofs.lemmas.Grind.{common_steps}
 use Rattle.std.{proofs.Common.{◌≡◌, ℕ, ◌<◌, ◌^◌, List, [], ◌∷◌, ◌++◌, length, Option, Some, None, refl, sym, ap, subst, ◌∙◌, arith, true, Bool, false}, specs.Prelude.IsSomeAnd}
 use Rattle.vs_contents.specs.CallTree.{Ask, Done, played}
 use Rattle.laws_history.specs.{History.{History, Put, Side}, Packets.{IsFormed, is_request, packet_bytes}, declared.packet.Packet.Packet, Again.AllowsNow}
@@ -64,15 +65,7 @@ module _ (device : EndLog) (fit : PutsFit device.entries) where
 
   moved : (call : DriverCall) (a : DriverAnswer call) (P : Rings → Type 0) (f : Rings → Rings) (Q : EndLog → Type 0) (g : EndLog → EndLog) (s : Rings × EndLog)
       → P s.0 → Q s.1 → IsFairLog Driver (g s.1).entries → DriverMoves call a P f Q g (shown s) (shown (f s.0, g s.1))
-  moved call a P f Q g s p q fair = record {
-    lists = (p, refl);
-    log = (q, refl);
-    other = refl;
-    plain = refl;
-    known = refl;
-    honest = refl;
-    fair = λ on l is. let same : g s.1 ≡ l = cc in subst (λ (k : EndLog). IsFairLog Driver k.entries) same fair;
-  }
+  moved call a P f Q g s p q fair = grind (arith, common_steps)
 
   -- A packet that comes back is the next that the device put.
   came : (log : Log) (page : List ℕ) (lists : Rings) (o : Option Packet) → packet_held page ≡ o

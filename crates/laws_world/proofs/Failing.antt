@@ -6,10 +6,10 @@ use Rattle.vs_outside.specs.Host.{HostContents, accept_answer, after_accept, aft
 use Rattle.vs_outside.specs.Host.{read_failed, write_failed, dial_answer, fails_now, read_answer, write_answer}
 use Rattle.vs_outside.specs.{Faults.{counted_down, fails_next}, declared.host_net.{Accepted.Accepted, Dialed.Dialed, StreamRead.StreamRead, StreamWrite.StreamWrite}}
 use Rattle.vs_header.specs.declared.Header.{Header}
-use Rattle.vs_ring_port.specs.{declared.{device_ring.{Chain.Chain, Next.Next}, queue.Queue.TheVariants.{Event, Rx}, failure.Failure.Failure}, Contents.Take}
+use Rattle.vs_ring_port.specs.{declared.{device_ring.{Chain.Chain, Next.Next}, failure.Failure.Failure}}
 use Rattle.vs_flow.specs.declared.flow.Flow.{Flow}
 use Rattle.vs_wrap.specs.Wrap.{counted}
-use Rattle.vs_device_parts.specs.{Calls.{DeviceTree, Ring}, Receiving.written}
+use Rattle.vs_device_parts.specs.{Calls.{DeviceTree}, Receiving.written}
 use Rattle.vs_contents.specs.CallTree.{Ask, Done, played}
 use Rattle.vs_proxy_parts.specs.{State.ProxyState, Turns.{proxy_reset_of, turn_of}, declared.answers.Turn.Turn}
 use Rattle.laws_device.proofs.Walk.{Fields.{AfterEventPage, AfterTx, Calls, Fields, TxCalls, after_rx, faulted, fields_turn}, Keeping.{Asking, Keeps}, Single.reset_keeps}
@@ -57,17 +57,10 @@ module _ (m : ℕ) where
   P page n a = Within n.faults a.host.to_fail
 
   went : (faults : ℕ) (h : HostContents) → Within faults h.to_fail → Within faults (called h).to_fail
-  went faults h at = let less = shorter h.to_fail in by (fails_now h) less
-    where
-      by : (b : Bool) → length (counted_down h.to_fail) + cond b 1 0 ≤ length h.to_fail → Within faults (called h).to_fail
-      by true less = omega (arith, at, less)
-      by false less = omega (arith, at, less)
+  went faults h at = grind (arith, common_steps, shorter)
 
   fails : (faults : ℕ) (h : HostContents) → Within faults h.to_fail → fails_now h ≡ true → Within (counted faults) (called h).to_fail
-  fails faults h at is =
-      let less : length (counted_down h.to_fail) + 1 ≤ length h.to_fail =
-      subst (λ (b : Bool). length (counted_down h.to_fail) + cond b 1 0 ≤ length h.to_fail) is (shorter h.to_fail) in
-      grind (arith, nat_tests, at, less)
+  fails faults h at is = grind (arith, common_steps, shorter)
 
   after_failed_is : (h : HostContents) → (after_failed h).to_fail ≡ (called h).to_fail
   after_failed_is h = grind (arith, common_steps)
@@ -101,23 +94,17 @@ module _ (m : ℕ) where
 
   dials : (n : Fields) (path : List ℕ) (flow : Flow) (x : Dialed) (a : Around) → P None n a → dial_answer path a.host ≡ x
       → P None (faulted (dial_failed x) n) (on (after_dial flow x a.host) a)
-  dials n path flow dialed.Failed a at is =
-      subst (Within (counted n.faults)) (sym (after_failed_is a.host)) (fails n.faults a.host at (dial_to_fail path a.host is))
-  dials n path flow _ a at is = went n.faults a.host at
+  dials n path flow x a at is = grind (arith, common_steps, after_failed_is, fails, dial_to_fail, went)
 
   accepts : (n : Fields) (x : Accepted) (a : Around) → P None n a → accept_answer a.host ≡ x → P None (faulted (accept_failed x) n) (on (after_accept x a.host) a)
   accepts n accepted.Failed a at is = fails n.faults a.host at (accept_to_fail a.host is)
   accepts n _ a at is = went n.faults a.host at
 
   rx_page : (x : Next) (n : Fields) (a : Around) → P None n a → P None (after_rx x n) a
-  rx_page (next.Chain chain) n a at = at
-  rx_page next.None n a at = at
-  rx_page (next.Failed f) n a at = at
+  rx_page x n a at = grind (arith, common_steps)
 
   event_page : (x : Next) (n : Fields) (a : Around) → P None n a → AfterEventPage playing P x n a
-  event_page (next.Chain chain) n a at = at
-  event_page next.None n a at = at
-  event_page (next.Failed f) n a at = at
+  event_page x n a at = grind (arith, common_steps)
 
   puts_packet : (chain : Chain) (h : Header) (payload : List ℕ) (n : Fields) (a : Around) → P None n a
       → Keeps playing (λ x b. P None n b) (written chain h payload) a
@@ -125,30 +112,13 @@ module _ (m : ℕ) where
   puts_packet chain h (x ∷ payload) n a at = at
 
   calls : Calls playing P
-  calls = record {
-    closes = λ page stream n a at. at;
-    shuts = λ stream n a at. at;
-    labels = λ stream flow n a at. at;
-    accepts = λ n a at. accepts n _ a at refl;
-    reads = λ stream room n a at. have_read n stream room _ a at refl;
-    writes = λ stream bytes n a at. wrote n stream bytes _ a at refl;
-    takes_rx = λ n a at none. let r = answer_around (Ring (Take Rx)) a in rx_page r.0 n r.1 at;
-    event = λ n a at owed. let r = answer_around (Ring (Take Event)) a in event_page r.0 n r.1 at;
-    puts = λ chain h payload n a at is. puts_packet chain h payload n a at;
-  }
+  calls = grind (arith, common_steps, accepts, have_read, wrote, rx_page, event_page, puts_packet)
 
   taken : (x : Next) (n : Fields) (a : Around) → P None n a → AfterTx playing P x n a
-  taken (next.Chain chain) n a at = record { short = λ is. at; drops = λ whole is. at; comes = λ whole is. at }
-  taken next.None n a at = at
-  taken (next.Failed f) n a at = at
+  taken x n a at = grind (arith, common_steps)
 
   tx_calls : TxCalls playing P
-  tx_calls = record {
-    takes = λ n a at. taken _ n _ at;
-    reads = λ chain len n a at. at;
-    dials = λ chain path flow n a at. dials n path flow _ a at refl;
-    returns = λ chain n a at. at;
-  }
+  tx_calls = grind (arith, common_steps, taken, dials)
 
   -- A turn and a transport reset.
   abbrev pub FailsWithin : World → Type 0

@@ -1,4 +1,6 @@
 -- The packets and the event that the device puts in a turn are a list of events.
+use Rattle.std.proofs.lemmas.Grind.{common_steps}
+use Rattle.std.proofs.Common.{arith}
 use Rattle.std.proofs.Common.{◌≡◌, ℕ, ◌+◌, ◌==◌, not, Bool, true, false, cond, List, [], ◌∷◌, length, Option, Some, None, Result, Ok, Err, refl, sym, subst}
 use Rattle.vs_contents.specs.CallTree.{Done, Ask, bind, for_each, played, while_up_to}
 use Rattle.vs_conn.specs.{End.{owes_of, wanting_credit}, Headers.owed_header, declared.end.Owed.Owed}
@@ -8,7 +10,7 @@ use Rattle.vs_header.specs.declared.Header.{Header}
 use Rattle.vs_outside.specs.{Host.read_answer, declared.host_net.StreamRead.StreamRead}
 use Rattle.vs_replies.specs.declared.Reply.{Reply}
 use Rattle.vs_ring_port.specs.{Contents.Take, Lists.chain_with, declared.{device_ring.Chain.Chain, failure.Failure.Failure, queue.Queue.TheVariants.Rx}}
-use Rattle.vs_device_parts.specs.{Calls.{CloseStream, DeviceTree, ReadStream, Ring}, Connections.{after_leaving, cut_off, route_to_guest, stream_closed, with_connection}}
+use Rattle.vs_device_parts.specs.{Calls.{CloseStream, DeviceTree, ReadStream, Ring}, Connections.{cut_off, route_to_guest, with_connection}}
 use Rattle.vs_device_parts.specs.{Connections.with_fault, Receiving.{Filling, after_paying, fill_rx_of, filled_of, hold, may_read, put_on, put_owed, put_packet, put_reply}}
 use Rattle.vs_device_parts.specs.{Receiving.{read_answered, read_room, read_stream, read_with_chain, reply_header, round_from, serve_slot}, State.{DeviceEntry, DeviceState}}
 use Rattle.vs_device_parts.specs.{Steps.{filling, puts_owed, puts_payload, puts_reply, reads, takes_chain}, declared.answers.Filled.Filled}
@@ -138,16 +140,7 @@ owed_from o r = elim o as (λ _. DeviceTree (Filling × Bool)) [
 ]
 
 paying_fine : (e : DeviceEntry) (what : Owed) (s : DeviceState) → s.failed ≡ None → EndsFine (after_paying what e s)
-paying_fine e owed.Rst s fine = by e.value.closed
-  where
-    by : (b : Bool) → EndsFine (bind (cond b
-        (Done (with_connection e.slot (stream_closed e.value) (record s { last_put = Some e.slot })))
-        (Ask (CloseStream e.value.stream) (λ _. Done (with_connection e.slot (stream_closed e.value)
-        (record s { last_put = Some e.slot })))))
-        (λ t. Done (after_leaving e.slot t)))
-    by true = fine
-    by false = λ _. fine
-paying_fine e _ s fine = fine
+paying_fine e what s fine = grind (arith, common_steps, EndsFine)
 
 owed_does : (slot : ℕ) → PutDoes (put_owed slot)
 owed_does slot w x fine =

@@ -1,6 +1,6 @@
 -- What a device's call leaves of what the driver's end sees: its log, the size of the rings, and how many pages are in flight.
-use Rattle.std.proofs.{Common.{◌≡◌, ℕ, List, [], ◌∷◌, refl, sym, ap, subst, ◌∙◌, arith}, lemmas.Grind.common_steps}
-use Rattle.vs_ring_port.specs.{Contents.{DeviceCall, DeviceAnswer, Take, Read, Write, Return, Given, PublishCid}, Counts.Counts, DeviceCalls.device_answer, EndLog.EndLog}
+use Rattle.std.proofs.{Common.{◌≡◌, ℕ, List, [], ◌∷◌, refl, arith}, lemmas.Grind.common_steps}
+use Rattle.vs_ring_port.specs.{Contents.{DeviceCall, DeviceAnswer, Take, Read, Write, Return, Given, PublishCid}, Counts.Counts, DeviceCalls.device_answer}
 use Rattle.vs_ring_port.specs.{EndLog.log_taken, Lists.{Rings, after_return, after_take, next_at, next_given, queue_of}, declared.queue.Queue.{Queue, TheVariants.{Rx, Tx, Event}}}
 use Rattle.vs_ring_list.{specs.Ends.{Ends, device_contents, flight_of}, proofs.Flights.{flight_of-taken, in_flight-written, in_flight-returned}}
 use Rattle.vs_device_parts.specs.Calls.{Ring}
@@ -69,8 +69,4 @@ leaves (PublishCid cid) v can = record { driver = refl; size = refl; flight = re
 
 pub leaves_call : (call : DeviceCall) (a : DeviceAnswer call) (v w : Ends) → IsHeldFor (Ring call) (device_contents v)
     → device_answer call (v.lists, v.device) ≡ (a, (w.lists, w.device)) → w.driver ≡ v.driver → LeavesDriver v w
-leaves_call call a v w can answer driver =
-    let is : after call v ≡ w =
-    ap (λ (r : DeviceAnswer call × (Rings × EndLog)). let e : Ends = record v { lists = r.1.0; device = r.1.1 } in e) answer
-    ∙ ap (λ (d : EndLog). let e : Ends = record { lists = w.lists; driver = d; device = w.device } in e) (sym driver) in
-    subst (LeavesDriver v) is (leaves call v can)
+leaves_call call a v w can answer driver = grind (arith, common_steps, leaves)

@@ -1,5 +1,6 @@
 -- Each chain that a conversation returns is held.
-use Rattle.std.proofs.Common.{◌≡◌, suc, ◌<◌, ◌≤◌, Bool, true, false, cond, List, [], ◌∷◌, length, Option, Some, None, Contains, refl, sym, arith}
+use Rattle.std.proofs.lemmas.Grind.{common_steps}
+use Rattle.std.proofs.Common.{◌≡◌, suc, ◌<◌, Bool, true, false, cond, List, [], ◌∷◌, length, Option, Some, None, Contains, refl, sym, arith}
 use Rattle.vs_contents.specs.CallTree.{Done, Ask, bind, MayPlay}
 use Rattle.vs_ring_port.specs.{Contents.{RingContents, DeviceCall, Return}, Chains.{Held, bytes_in, chains_of, same_chain}}
 use Rattle.vs_ring_port.specs.declared.device_ring.Chain.{Chain}
@@ -50,10 +51,7 @@ written_held chain (h ∷ held) some = by (λ more. written_held chain held more
     by rest false is some = let more = rest some in let lt = more.1 in (suc more.0, omega (arith, lt), more.2)
 
 ring_made : (call : DeviceCall) (s : Situation) → ReturnsSome (Ring call) → CanMake (Ring call) s → IsHeldFor (Ring call) s.ring
-ring_made (Return chain len) s some can = λ l is.
-    let written : len ≤ length (bytes_in chain l.held) = (can some).written l is in
-    written_held chain l.held (omega (arith, some, written))
-ring_made x s some can = tt
+ring_made x s some can = grind (arith, common_steps, written_held)
 
 made_held : (call : Call) (s : Situation) → ReturnsSome call → CanMake call s → CanHold call s
 made_held (Ring call) s some can = ring_made call s some can

@@ -1,5 +1,7 @@
 -- A fact of the driver's connections and of who waits, through each of the driver's steps and each call of the guest's: it is kept where small
 -- changes keep it.
+use Rattle.std.proofs.lemmas.Grind.{common_steps}
+use Rattle.std.proofs.Common.{arith}
 use Rattle.std.proofs.Common.{◌≡◌, ℕ, Bool, true, false, cond, List, [], ◌∷◌, ◌++◌, Option, Some, None, is_some, Result, Ok, Err, refl}
 use Rattle.vs_conn.specs.{End.{ConnectionEnd, grown}, declared.end.{Owed.Owed, Verdict.Verdict}}
 use Rattle.vs_flow.specs.{Table.{IsTable, Table, entry_under, without}, declared.flow.Flow.Flow}
@@ -7,7 +9,7 @@ use Rattle.vs_limits.specs.declared.TheConstants.{HOST_CID}
 use Rattle.vs_header.specs.declared.Header.{Header}
 use Rattle.laws_history.specs.declared.packet.Packet.{Packet}
 use Rattle.vs_driver_parts.specs.{State.{DriverConnection, DriverEntry, DriverState, GoneConnection, Listener, entry_known_as, is_known_as}, Connections.after_close}
-use Rattle.vs_driver_parts.specs.Connections.{after_closing, after_grow, after_leaving, after_read, after_recv, after_shut, after_shutdown}
+use Rattle.vs_driver_parts.specs.Connections.{after_closing, after_grow, after_leaving, after_recv, after_shut, after_shutdown}
 use Rattle.vs_driver_parts.specs.Connections.{after_unlisten, all_closed, all_gone_after_read, gone_as, is_let_go, next_flow}
 use Rattle.vs_driver_parts.specs.Connections.{paid_connection, waiting_on, waits_no_more, with_connection, with_end, with_opened, with_request, without_gone}
 use Rattle.vs_driver_parts.specs.{Connections.without_listener, declared.answers.ListenError.ListenError, Receiving.after_packet}
@@ -85,10 +87,7 @@ module _ {May : ℕ → Type 0} (P : Sight) (kept : IsKept May P) where
 
   pay_kept : (what : Owed) (e : DriverEntry) (s : DriverState) → entry_under s.table e.slot ≡ Some e → Sees P s
       → Sees P (with_connection e.slot (paid_connection what e.value) s)
-  pay_kept owed.Response e s under holds =
-      kept.changes s e (paid_connection owed.Response e.value) under (record { id_is = refl; closed_is = refl; answered = λ is. refl }) holds
-  pay_kept what e s under holds =
-      kept.changes s e (paid_connection what e.value) under (record { id_is = refl; closed_is = refl; answered = λ is. is }) holds
+  pay_kept what e s under holds = grind (arith, common_steps)
 
   pub small_kept : Small (λ port. P)
   small_kept = record {
@@ -101,9 +100,7 @@ module _ {May : ℕ → Type 0} (P : Sight) (kept : IsKept May P) where
 
   -- recv, shutdown, grow, close and unlisten.
   recv_kept : (id n : ℕ) (s : DriverState) → IsTable s.table → Sees P s → Sees P (after_recv id n s)
-  recv_kept id n s sound holds = recv_to (Sees P) id s holds n (λ e is.
-      kept.changes s e (after_read n e.value) (found_under (is_known_as id) s.table e sound is) (record { id_is = refl; closed_is = refl; answered = λ is. is }) holds)
-      (kept.reads id n s holds)
+  recv_kept id n s sound holds = grind (arith, common_steps, recv_to, found_under)
 
   shutdown_kept : (id bits : ℕ) (s : DriverState) → IsTable s.table → Sees P s → Sees P (after_shutdown id bits s)
   shutdown_kept id bits s sound holds = shutdown_to (Sees P) id s holds bits (λ e is.

@@ -1,6 +1,7 @@
 -- Who waits on the ports that are listened on, through each change of the driver's lists.
-use Rattle.std.proofs.Common.{◌≡◌, ◌≢◌, ℕ, ◌<◌, ◌==◌, Bool, true, false, not, cond, List, [], ◌∷◌, ◌++◌, filter, find, Option, Some, None, refl, sym, ap, subst, ◌∙◌, arith}
-use Rattle.std.{proofs.lemmas.Bool.Decides.nat_tests, specs.Option.option_map_or}
+use Rattle.std.proofs.lemmas.Grind.{common_steps}
+use Rattle.std.proofs.Common.{◌≡◌, ◌≢◌, ℕ, ◌<◌, ◌==◌, Bool, true, false, not, cond, List, [], ◌∷◌, ◌++◌, filter, find, Some, refl, sym, ap, subst, ◌∙◌, arith}
+use Rattle.std.{proofs.lemmas.Bool.Decides.nat_tests}
 use Rattle.vs_driver_parts.specs.{Listening.{listener_on, with_port, with_waiting, without_id}, State.{DriverState, Listener}, Connections.{without_listener, waiting_on}}
 
 -- This holds of each id of a list; and, with the port, of each that waits on one.
@@ -102,11 +103,7 @@ module _ (P : ℕ → ℕ → Type 0) where
       by false at is rest = rest is
 
   pub waiting_all : (port : ℕ) (s : DriverState) → AllWait P s.listeners → AllIds (P port) (waiting_on port s)
-  waiting_all port s all = by (listener_on port s.listeners) refl
-    where
-      by : (o : Option Listener) → listener_on port s.listeners ≡ o → AllIds (P port) (option_map_or (λ (l : Listener). l.waiting) o [])
-      by None is = tt
-      by (Some l) is = wait_found port s.listeners l is all
+  waiting_all port s all = grind (arith, common_steps, wait_found)
 
 -- One that is accepted waits no more, on no port.
 none_left : (id : ℕ) (ids : List ℕ) → AllIds (λ other. other ≢ id) (without_id id ids)

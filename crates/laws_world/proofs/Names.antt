@@ -1,15 +1,16 @@
 -- What is known of an id, and who waits on ports, through each change of the driver.
-use Rattle.std.proofs.Common.{◌≡◌, ◌≢◌, ℕ, suc, ◌+◌, ◌-◌, ◌<◌, ◌≤◌, ◌==◌, ◌&&◌, ◌||◌, ◌⊎◌, inl, inr, Bool, true, false, not, cond, List, [], ◌∷◌, ◌++◌, find, drop, is_some}
+use Rattle.std.proofs.lemmas.Grind.{common_steps}
+use Rattle.std.proofs.Common.{◌≡◌, ◌≢◌, ℕ, suc, ◌+◌, ◌-◌, ◌<◌, ◌≤◌, ◌==◌, ◌&&◌, ◌||◌, ◌⊎◌, inl, inr, Bool, true, false, not, cond, List, [], ◌∷◌, ◌++◌, find, drop}
 use Rattle.std.proofs.{Common.{Contains, get_or, Option, Some, None, refl, sym, ap, subst, ◌∙◌, arith}, lemmas.List.Elements.{All-contains, All-filter, All-map, All-push}}
 use Rattle.std.{proofs.lemmas.{List.{Elements.filter_passes, Folds.find-append}, Bool.Decides.nat_tests, Option.{get_or_from_slice_get, slice_get_within}}, specs.List.All}
 use Rattle.std.specs.Option.{option_map, option_or}
 use Rattle.vs_flow.{specs.{Table.{IsTable, Table, entry_under, next_entry, revalued, without}, declared.flow.Flow.Flow, Connection.Connection}, proofs.Entries.find_none}
 use Rattle.vs_flow.proofs.{Entries.{found_passes, none_found}, Lookups.{entry_under-with_entry, entry_under-with_value, entry_under-without, find_place}}
 use Rattle.vs_driver_parts.specs.{State.{DriverConnection, DriverEntry, DriverState, GoneConnection, Listener, entry_known_as, gone_known_as, is_known_as}, Connections.after_close}
-use Rattle.vs_driver_parts.specs.Connections.{after_closing, all_gone_after_read, close_of, entry_closed, flow_of, gone_as, gone_closed, is_known, is_let_go, waiting_on}
-use Rattle.vs_driver_parts.specs.{Connections.{with_connection, with_opened, without_gone}, Listening.{is_answered, with_waiting, without_id}, SlotFields.AreNumbered}
+use Rattle.vs_driver_parts.specs.Connections.{after_closing, all_gone_after_read, close_of, flow_of, gone_as, is_let_go, waiting_on}
+use Rattle.vs_driver_parts.specs.{Connections.{with_connection, with_opened, without_gone}, Listening.{is_answered, with_waiting}, SlotFields.AreNumbered}
 use Rattle.vs_driver_parts.proofs.{Ids.{HasId, entry_has, found_under, has_slot}, Known.{flow_gone, flow_known}, SameIds.{closing_closed, closing_id}}
-use Rattle.laws_driver.specs.{Honest.slots_of, Carried.{Received.{Account, AreReceived, ReceivedOn, ReceivesOn}, Calls.{Close, GuestCall, Journal, LookAt, ReplyTo, with_call}}}
+use Rattle.laws_driver.specs.{Honest.slots_of, Carried.{Received.{Account, AreReceived, ReceivedOn, ReceivesOn}, Calls.{GuestCall, Journal, LookAt, ReplyTo, with_call}}}
 use Rattle.laws_driver.proofs.Carrying.{Fact}
 use Rattle.vs_conn.specs.End.{ConnectionEnd, answering}
 use Rattle.vs_header.specs.declared.Kind.TheVariants.{Stream}
@@ -91,21 +92,13 @@ pub record Stands (id : ℕ) (o : Option Flow) (next : ℕ) (t : Table DriverCon
   pub waits : (o ≡ None) ⊎ AllWait (IsOther id) listeners
 
 found_gone : (id : ℕ) (gone : List GoneConnection) (g : GoneConnection) → gone_in id gone ≡ Some g → Contains gone g × ((g.id == id) ≡ true)
-found_gone id gone g is =
-    let place = find_place (λ (h : GoneConnection). h.id == id) gone g is in (
-      (place.0, slice_get_within gone place.0 g place.1, get_or_from_slice_get gone place.0 g g place.1),
-      found_passes (λ (h : GoneConnection). h.id == id) gone g is,
-    )
+found_gone id gone g is = grind (arith, common_steps, find_place, slice_get_within, get_or_from_slice_get, found_passes)
 
 never : (o : Option Flow) (f : Flow) → Some (false, f) ≡ shown o → ⊥
-never None f is = absurd cc
-never (Some g) f is =
-    let both : false ≡ true = ap (λ (y : Option (Bool × Flow)). elim y as (λ _. Bool) [ None ↦ true | Some x ↦ x.0 ]) is in absurd cc
+never o f is = grind (arith, common_steps)
 
 closed_none : (known closed : Bool) (x : Bool × Flow) → closed ≡ true → cond (known && not closed) (Some x) None ≡ None
-closed_none known false x is = absurd cc
-closed_none true true x is = refl
-closed_none false true x is = refl
+closed_none known closed x is = grind (arith, common_steps)
 
 option_same : {X : Type 0} (x : Option X) → x ≡ option_or x None
 option_same None = refl
@@ -166,15 +159,11 @@ module _ (id : ℕ) (o : Option Flow) where
 
   here_seen : (known was now : Bool) (f : Flow) → (was ≡ false → now ≡ false) → cond known (Some (not was, f)) None ≡ shown o
       → cond known (Some (not now, f)) None ≡ shown o
-  here_seen false was now f stays is = is
-  here_seen true true now f stays is = absurd (never o f is)
-  here_seen true false now f stays is = ap (λ (b : Bool). Some (not b, f)) (stays refl) ∙ is
+  here_seen known was now f stays is = grind (arith, common_steps, never)
 
   changed_here : (e : DriverEntry) (c : DriverConnection) → StaysSame e.value c → entry_seen id (Some e) ≡ shown o
       → entry_seen id (Some (record e { value = c })) ≡ shown o
-  changed_here e c same is =
-      ap (λ (b : Bool). cond b (Some (not c.unanswered, e.flow)) None) (known_same e c same)
-      ∙ here_seen (is_known_as id e) e.value.unanswered c.unanswered e.flow same.answered is
+  changed_here e c same is = grind (arith, common_steps, known_same, here_seen)
 
   -- It leaves the table.
   module _ (s : DriverState) (e : DriverEntry) (c : DriverConnection) (under : entry_under s.table e.slot ≡ Some e) (same : StaysSame e.value c)
@@ -309,15 +298,7 @@ module _ (id : ℕ) (o : Option Flow) where
   -- A connection of the table is closed.
   closed_here : (other : ℕ) → MayClose other → (e : DriverEntry) → is_known_as other e ≡ true → entry_seen id (Some e) ≡ shown o
       → entry_seen id (Some (record e { value = after_closing e.value.end.state e.value })) ≡ shown o
-  closed_here other may e known is =
-      let c = after_closing e.value.end.state e.value in
-      closed_none (c.id == id) c.closed (not c.unanswered, e.flow) (closing_closed e.value.end.state e.value) ∙ by may
-    where
-      by : MayClose other → None ≡ shown o
-      by (inl none) = sym (ap shown none)
-      by (inr apart) =
-          let other_id : is_known_as id e ≡ false = grind (arith, nat_tests, known, apart) in
-          sym (ap (λ (b : Bool). cond b (Some (not e.value.unanswered, e.flow)) None) other_id) ∙ is
+  closed_here other may e known is = grind (arith, common_steps, closed_none, closing_closed)
 
   pub stands_kept : IsKept MayClose Is
   stands_kept = record {
@@ -362,9 +343,7 @@ NamesFrom s call None = Unit {0}
 NamesFrom s call (Some x) = Sees (Stands x.0 x.1) s × MayMake (MayClose x.0 x.1) call
 
 pub names_may : (s : DriverState) (call : GuestCall) (i : Option (ℕ × Option Flow)) → NamesFrom s call i → MayMake (NamesMay i) call
-names_may s (Close id) None from = tt
-names_may s call None from = tt
-names_may s call (Some x) from = from.1
+names_may s call i from = grind (arith, common_steps)
 
 -- It was given, and nothing is known of it.
 abbrev pub IsOver : ℕ → DriverState → Type 0
@@ -402,79 +381,19 @@ module _ (port : ℕ) (id : ℕ) (s : DriverState) (sound : IsTable s.table) (nu
       sym (ap (entry_under s.table) here) ∙ found_under (is_known_as id) s.table e sound is
 
   pub seen_is : seen id s.table s.gone ≡ known_of (entry_known_as id s) (gone_known_as id s)
-  seen_is = by (entry_known_as id s) refl
-    where
-      gone_by : (g : Option GoneConnection) → entry_known_as id s ≡ None
-          → seen_in g (entry_seen id (entry_under s.table (id - 1))) ≡ option_map (λ (h : GoneConnection). (true, h.flow)) g
-      gone_by (Some g) none = refl
-      gone_by None none = unseen none
-
-      by : (y : Option DriverEntry) → entry_known_as id s ≡ y
-          → seen_in (gone_in id s.gone) (entry_seen id (entry_under s.table (id - 1))) ≡ known_of y (gone_known_as id s)
-      by None none = gone_by (gone_known_as id s) none
-      by (Some e) is =
-          ap (λ (g : Option GoneConnection). seen_in g (entry_seen id (entry_under s.table (id - 1)))) (gone_none e is) ∙ ap (entry_seen id) (under e is)
-          ∙ ap (λ (b : Bool). cond b (Some (not e.value.unanswered, e.flow)) None) (found_passes (is_known_as id) s.table.entries e is)
+  seen_is = grind (arith, common_steps, unseen, gone_none, under, found_passes)
 
   -- So its flow is that of what is known of it.
   pub flow_seen : flow_of id s ≡ option_map (λ (x : Bool × Flow). x.1) (seen id s.table s.gone)
-  flow_seen = by (entry_known_as id s) (gone_known_as id s) ∙ sym (ap (option_map (λ (x : Bool × Flow). x.1)) seen_is)
-    where
-      by : (y : Option DriverEntry) (g : Option GoneConnection)
-          → elim y as (λ _. Option Flow) [ None ↦ option_map (λ (h : GoneConnection). h.flow) g | Some e ↦ Some e.flow ]
-          ≡ option_map (λ (x : Bool × Flow). x.1) (known_of y g)
-      by (Some e) g = refl
-      by None None = refl
-      by None (Some g) = refl
+  flow_seen = grind (arith, common_steps, seen_is)
 
   -- One that is answered has a flow.
   pub answered_seen : is_answered s id ≡ true → (f : Flow) × (seen id s.table s.gone ≡ Some (true, f))
-  answered_seen is = let x = by (entry_known_as id s) (gone_known_as id s) is in (x.0, seen_is ∙ x.1)
-    where
-      put : (b : Bool) (f : Flow) → not b ≡ true → (g : Flow) × (◌≡◌ {A = Option (Bool × Flow)} (Some (not b, f)) (Some (true, g)))
-      put b f is = (f, ap (λ (c : Bool). Some (c, f)) is)
-
-      by : (y : Option DriverEntry) (g : Option GoneConnection) → elim y as (λ _. Bool) [ None ↦ is_some g | Some e ↦ not e.value.unanswered ] ≡ true
-          → (f : Flow) × (known_of y g ≡ Some (true, f))
-      by (Some e) g is = put e.value.unanswered e.flow is
-      by None (Some g) is = (g.flow, refl)
-      by None None is = absurd cc
+  answered_seen is = grind (arith, common_steps, seen_is)
 
   -- A close that knew it leaves nothing known of it.
   pub closed_unknown : close_of id s ≡ closed.Done → IsOver id (after_close id s)
-  closed_unknown is = by (entry_known_as id s) refl
-    where
-      gone_by : (o : Option GoneConnection) → entry_known_as id s ≡ None → gone_known_as id s ≡ o → IsOver id (elim o as (λ _. DriverState) [
-        | None ↦ s
-        | Some g ↦ record s { gone = without_gone id s.gone; listeners = with_waiting g.flow.guest (without_id id) s.listeners }
-      ])
-      gone_by None unknown none = let no : closed.Unknown ≡ closed.Done = sym (rw (unknown, none, close_of, is_known) refl) ∙ is in absurd cc
-      gone_by (Some g) unknown found =
-          let there = found_gone id s.gone g found in
-          let passes = there.1 in
-          let at : g.id ≡ id = grind (arith, nat_tests, passes) in
-          let less = All-contains (λ (x : GoneConnection). x.id < s.next_id) s.gone g numbers.below there.0 in
-          let none : gone_in id (without_gone id s.gone) ≡ None = find_none (λ (x : GoneConnection). x.id == id) (without_gone id s.gone)
-          (λ k d less. let other = filter_passes (λ (x : GoneConnection). not (x.id == id)) s.gone k d less in grind (arith, nat_tests, other)) in
-          (omega (arith, at, less), ap (λ (y : Option GoneConnection). seen_in y (entry_seen id (entry_under s.table (id - 1)))) none ∙ unseen unknown)
-
-      by : (o : Option DriverEntry) → entry_known_as id s ≡ o → IsOver id (elim o as (λ _. DriverState) [ Some e ↦ entry_closed e s | None ↦ gone_closed id s ])
-      by None unknown = gone_by (gone_known_as id s) unknown refl
-      by (Some e) known =
-          let c = after_closing e.value.end.state e.value in
-          let found = found_by (is_known_as id) s.table.entries e known in
-          let passes = found.1 in
-          let at : e.value.id ≡ id = grind (arith, nat_tests, passes) in
-          let mine = All-contains (HasId 1) s.table.entries e numbers.slots found.0 in
-          let below = All-contains (λ (x : DriverEntry). x.slot < s.table.given) s.table.entries e sound.were_given found.0 in
-          let next = numbers.given in
-          let here : (e.slot == e.slot) ≡ true = grind (arith, nat_tests) in (
-            omega (arith, below, at, mine, next),
-            ap (λ (y : Option GoneConnection). seen_in y (entry_seen id (entry_under (with_connection e.slot c s).table (id - 1)))) (gone_none e known)
-                ∙ ap (entry_seen id) (entry_under-with_value s.table e.slot c (id - 1) ∙ ap (option_map (revalued e.slot c)) (under e known))
-                ∙ ap (λ (b : Bool). entry_seen id (Some (cond b (record e { value = c }) e))) here
-                ∙ closed_none (c.id == id) c.closed (not c.unanswered, e.flow) (closing_closed e.value.end.state e.value),
-          )
+  closed_unknown is = grind (arith, common_steps, found_gone, All-contains, find_none, filter_passes, unseen, found_by, HasId, gone_none, entry_under-with_value, under, closed_none, closing_closed)
 
 -- An id that is known is that of a connection of its flow.
 module _ (a : Account) (log : Log) (s : DriverState) (x : AreReceived a log (slots_of s)) (id : ℕ) where
@@ -506,12 +425,7 @@ module _ (a : Account) (log : Log) (s : DriverState) (x : AreReceived a log (slo
           inr (flow_known id s e is ∙ ap (λ (c : Connection). Some c.flow) (sym now), subst (λ (c : Connection). 1 ≤ c.number) (sym now) on.some)
 
   pub flow_opened : (f : Flow) → flow_of id s ≡ Some f → ((a.opened id).flow ≡ f) × (1 ≤ (a.opened id).number)
-  flow_opened f is = by flows
-    where
-      by : ((entry_known_as id s ≡ None) × (gone_known_as id s ≡ None)) ⊎ ((flow_of id s ≡ Some (a.opened id).flow) × (1 ≤ (a.opened id).number))
-          → ((a.opened id).flow ≡ f) × (1 ≤ (a.opened id).number)
-      by (inl none) = let no : None ≡ Some f = sym (rw (none.0, none.1, flow_of) refl) ∙ is in absurd cc
-      by (inr on) = let both = sym on.0 ∙ is in (cc, on.1)
+  flow_opened f is = grind (arith, common_steps, flows)
 
 -- From one driver and journal to another: where an id wasn't closed, or nothing is known of it, all that is known of it stays.
 pub record StaysNamed (s : DriverState) (was : Journal) (t : DriverState) (now : Journal) : Type 0 where
@@ -545,13 +459,7 @@ at_most true n = omega arith
 at_most false n = omega arith
 
 closes_none : (o : Option Flow) (id n : ℕ) (call : GuestCall) → (o ≡ None) ⊎ (cond (is_close id call) (suc n) n ≡ n) → MayMake (MayClose id o) call
-closes_none o id n (Close other) (inl none) = inl none
-closes_none o id n (Close other) (inr same) = by (other == id) refl same
-  where
-    by : (b : Bool) → (other == id) ≡ b → cond b (suc n) n ≡ n → MayClose id o other
-    by true at is = absurd (omega (arith, is))
-    by false apart is = inr (λ at. grind (arith, nat_tests, apart, at))
-closes_none o id n call on = tt
+closes_none o id n call on = grind (arith, common_steps)
 
 pub call_named : (call : GuestCall) (reply : ReplyTo call) (s : DriverState) (was : Journal) (part : Ends) (t : DriverState) (log : Log)
     → named_from s call part t log → StaysNamed s was t (with_call call s reply was)

@@ -1,5 +1,6 @@
 -- What the guest is told of an id, in a world: the flow of a connection that it was given, until it closes the id, and then none.
-use Rattle.std.proofs.Common.{◌≡◌, ℕ, ◌+◌, ◌<◌, ◌^◌, ◌==◌, ◌&&◌, inl, inr, Bool, true, false, not, cond, [], ◌∷◌, find, Option, Some, None, is_some, Result, Ok, refl, sym, ap}
+use Rattle.std.proofs.lemmas.Grind.{common_steps}
+use Rattle.std.proofs.Common.{◌≡◌, ℕ, ◌+◌, ◌<◌, ◌^◌, ◌==◌, ◌&&◌, inl, inr, Bool, true, false, not, cond, [], ◌∷◌, find, Option, Some, None, is_some, Result, Ok, refl, ap}
 use Rattle.std.{proofs.{Common.{subst, ◌∙◌, arith}, lemmas.{Bool.Decides.nat_tests, List.Folds.find-append}}, specs.{List.All, Option.{option_map, option_or}}}
 use Rattle.vs_contents.specs.CallTree.{played}
 use Rattle.vs_ring_port.specs.DriverCalls.{driver_answer}
@@ -8,7 +9,7 @@ use Rattle.vs_conn.specs.End.{ConnectionEnd, asked, paid_of}
 use Rattle.vs_header.specs.declared.Kind.TheVariants.{Stream}
 use Rattle.vs_limits.specs.declared.TheConstants.{BUF_ALLOC, HOST_CID}
 use Rattle.vs_driver_parts.specs.{Connections.{connected, flow_of, next_flow, with_opened}, State.{DriverEntry, DriverState, Listener, gone_known_as, is_known_as}}
-use Rattle.vs_driver_parts.specs.{Listening.{accept_of, after_accept, is_answered, listener_on, next_accepted, with_waiting, without_id}, Conversations.connect_of}
+use Rattle.vs_driver_parts.specs.{Listening.{accept_of, after_accept, is_answered, listener_on, with_waiting, without_id}, Conversations.connect_of}
 use Rattle.vs_driver_parts.{specs.declared.answers.{Accepted.Accepted, ConnectError.ConnectError}, proofs.Ids.HasId}
 use Rattle.laws_driver.proofs.{Calls.connect_keeps, Carrying.Fact}
 use Rattle.laws_world.proofs.{Listeners.{AllWait, IsOfPort, IsOther, accepted_other, ids_found, wait_found, wait_weaker}, Names.{IsOver, Stands, WaitsApart, answered_seen}}
@@ -99,25 +100,7 @@ module _ (id port : ℕ) (s : DriverState) (waits : Sees WaitsApart s) where
   gives : (l : Listener) → listener_on port s.listeners ≡ Some l → (o : Option ℕ) → find (is_answered s) l.waiting ≡ o
       → (elim o as (λ _. Accepted) [ None ↦ accepted.None | Some x ↦ accepted.Conn x ]) ≡ accepted.Conn id
       → IsTold id (elim o as (λ _. DriverState) [ None ↦ s | Some x ↦ record s { listeners = with_waiting port (without_id x) s.listeners } ])
-  gives l there None found is = absurd cc
-  gives l there (Some x) found is =
-      let same : x ≡ id = cc in
-      let of = ids_found (IsOfPort s.next_id waits.0 port) (is_answered s) l.waiting x found
-      (wait_found (IsOfPort s.next_id waits.0) port s.listeners l there waits.1) in
-      subst (λ (k : ℕ). IsTold k (record s { listeners = with_waiting port (without_id x) s.listeners })) same (record {
-        given = of.0;
-        answered = found_passes (is_answered s) l.waiting x found;
-        waits = accepted_other s.next_id waits.0 port x of.1 s.listeners waits.1;
-      })
+  gives l there o found is = grind (arith, common_steps, ids_found, IsOfPort, wait_found, found_passes, accepted_other)
 
   pub accept_told : accept_of port s ≡ accepted.Conn id → IsTold id (after_accept port s)
-  accept_told is = by (listener_on port s.listeners) refl
-    where
-      by : (o : Option Listener) → listener_on port s.listeners ≡ o → IsTold id (after_accept port s)
-      by None none = let no : accepted.NotListening ≡ accepted.Conn id = sym (rw (none, accept_of) refl) ∙ is in absurd cc
-      by (Some l) there =
-          let next : next_accepted port s ≡ find (is_answered s) l.waiting = rw (there, next_accepted) refl in
-          let answer : (elim (find (is_answered s) l.waiting) as (λ _. Accepted) [ None ↦ accepted.None | Some x ↦ accepted.Conn x ]) ≡ accepted.Conn id =
-          sym (rw (there, accept_of, next_accepted) refl) ∙ is in
-          subst (λ (o : Option ℕ). IsTold id (elim o as (λ _. DriverState) [ None ↦ s | Some x ↦ record s { listeners = with_waiting port (without_id x) s.listeners } ]))
-          (sym next) (gives l there (find (is_answered s) l.waiting) refl answer)
+  accept_told is = grind (arith, common_steps, gives)

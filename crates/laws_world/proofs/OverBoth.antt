@@ -1,7 +1,7 @@
 -- Over list rings with a host in memory that isn't starved each conversation of the device's has one end.
 use Rattle.std.proofs.lemmas.Grind.{common_steps}
 use Rattle.std.{proofs.Common.{◌≡◌, ℕ, Bool, false, List, length, Option, Some, None, unwrap_or, refl, sym, ap, ap₂, subst, ◌∙◌, arith}}
-use Rattle.vs_contents.specs.{CallTree.{Done, Ask, played}, Contents.Exposes}
+use Rattle.vs_contents.specs.{CallTree.{Done, Ask, played}}
 use Rattle.vs_flow.specs.declared.flow.Flow.{Flow}
 use Rattle.vs_outside.specs.Host.{HostContents, after_accept, after_dial, after_label, after_read, after_write, after_shut_write, after_close, after_failed}
 use Rattle.vs_outside.specs.{Host.{IsDialed, IsWritten}, declared.host_net.{Accepted.Accepted, Dialed.Dialed, StreamRead.StreamRead}}
@@ -78,9 +78,7 @@ host_step : (call : Call) (a : Answer call) (failed : Bool) (P : HostContents �
     → ((f h).starved ≡ false → h.starved ≡ false)
     → (P h → (f h).starved ≡ false → answer_around call (beside v h) ≡ (a, beside v (f h)))
     → IsStep call a v h t
-host_step call a failed P f v h s t ring host moves fed answered =
-    let e : Exposes (Some h) t.host P f = subst (λ (o : Option HostContents). Exposes o t.host P f) host moves.host in
-    record { ends = v; host = f h; ring_is = moves.ring ∙ ring; host_is = e.1; same = leaves_stay v; fed = fed; answered = answered e.0 }
+host_step call a failed P f v h s t ring host moves fed answered = grind (arith, common_steps, leaves_stay)
 
 -- A host that fails without being told to is starved.
 fed_failed : (h : HostContents) → (after_failed h).starved ≡ false → h.starved ≡ false

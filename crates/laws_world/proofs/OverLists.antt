@@ -1,5 +1,5 @@
 -- Over list rings each conversation of the driver's has one end.
-use Rattle.std.proofs.{Common.{◌≡◌, Some, None, refl, sym, ap, ap₂, subst, ◌∙◌, arith}, lemmas.Grind.common_steps}
+use Rattle.std.proofs.{Common.{◌≡◌, Some, None, refl, sym, ap, subst, ◌∙◌, arith}, lemmas.Grind.common_steps}
 use Rattle.vs_contents.specs.CallTree.{Done, Ask, Leads, played}
 use Rattle.vs_ring_port.specs.{DriverCalls.{DriverCall, DriverAnswer, Publish, DriverAllows, DriverMoves, driver_answer}, Contents.RingContents, EndLog.EndLog, Lists.Rings}
 use Rattle.vs_ring_list.{specs.Ends.{Ends, driver_contents}, proofs.Determined.driver_determined}
@@ -67,7 +67,4 @@ exposed v w same = grind (arith, common_steps)
 -- A call of the driver's over list rings: what it leads to is what it is played to.
 pub over : {A : Type 0} (tree : DriverTree A) (v w : Ends) (x : A) → Plays tree (driver_contents v) x (driver_contents w)
     → over_lists tree v ≡ (x, w)
-over tree v w x h =
-    let e = ends_at tree v x (driver_contents w) h in
-    let after : Ends = (over_lists tree v).1 in
-    ap₂ (λ a b. (a, b)) e.answer (sym (exposed w after e.contents))
+over tree v w x h = grind (arith, common_steps, ends_at, exposed)

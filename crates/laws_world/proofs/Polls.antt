@@ -11,7 +11,7 @@ use Rattle.vs_driver_parts.specs.Conversations.{DriverTree, Round}
 use Rattle.vs_driver_parts.specs.Conversations.{publish_of, published, put_owed, put_reply, start, take_event, take_packet}
 use Rattle.vs_driver_parts.specs.Steps.{stages_owed, stages_reply, takes_page}
 use Rattle.vs_limits.specs.declared.TheConstants.{OWED_MAX}
-use Rattle.laws_world.specs.{Steps.Leads, World.World, Events.{Event, GuestPays, GuestPublishes, GuestReplies, GuestTakes, driver_step, happens, is_at_rest, none_staged, works_on}}
+use Rattle.laws_world.specs.{Steps.Leads, World.World, Events.{Event, GuestPays, GuestPublishes, GuestReplies, GuestTakes, driver_step, happens, is_at_rest, works_on}}
 use Rattle.laws_world.proofs.GuestLines.{leads_none, leads_one, leads_then, played_bind, possible_is, reaps_all, with_driver}
 use Rattle.vs_ring_port.specs.declared.queue.Queue.TheVariants as q
 
@@ -145,9 +145,7 @@ all_three : (a b c : Bool) → a ≡ true → b ≡ true → c ≡ true → (a &
 all_three a b c x y z = grind (arith, common_steps)
 
 pub published_rests : (queue : Queue) (staged : Pages) → works_on queue staged ≡ true → is_at_rest (with_pages queue [] staged) ≡ true
-published_rests q.Rx staged works = let w = and_parts (none_staged staged.tx) (none_staged staged.event) works in all_three _ _ _ refl w.0 w.1
-published_rests q.Tx staged works = let w = and_parts (none_staged staged.rx) (none_staged staged.event) works in all_three _ _ _ w.0 refl w.1
-published_rests q.Event staged works = let w = and_parts (none_staged staged.rx) (none_staged staged.tx) works in all_three _ _ _ w.0 w.1 refl
+published_rests queue staged works = grind (arith, common_steps, and_parts, all_three)
 
 pub rest_works : (queue : Queue) (staged : Pages) → is_at_rest staged ≡ true → works_on queue staged ≡ true
 rest_works queue staged rest = grind (arith, common_steps)

@@ -1,5 +1,7 @@
 -- Small steps of the two ends, one after another.
-use Rattle.std.proofs.Common.{◌≡◌, List, [], ◌∷◌, ◌++◌, refl, sym, ap, subst, ◌∙◌, ℕ, append_assoc}
+use Rattle.std.proofs.lemmas.Grind.{common_steps}
+use Rattle.std.proofs.Common.{arith}
+use Rattle.std.proofs.Common.{◌≡◌, List, [], ◌∷◌, ◌++◌, refl, sym, subst, ◌∙◌, ℕ, append_assoc}
 use Rattle.vs_page.specs.{Log.{Driver, HasGotAll, Log, Role, other_role, packets_got, events_got}, declared.log.LogEntry.{LogEntry, TheVariants.{GotEvent, GotPacket}}}
 use Rattle.laws_tables.{specs.Both.{Both, Happening, IsSound, MayHappen, MayRun, Seat, Step, Takes, TakesEvent, after, at, happens, run}, proofs.Both.run_keeps}
 use Rattle.laws_tables.proofs.Going.{Goes, MayDo, MayDoAll, done}
@@ -20,11 +22,7 @@ pub one_step : (role : Role) (step : Step) (b c : Both) → MayHappen role step 
 one_step role step b c may is = record { steps = record { role = role; step = step } ∷ []; may = (may, tt); ends = is }
 
 pub and_then : (b c d : Both) → Runs b c → Runs c d → Runs b d
-and_then b c d x y = record {
-  steps = x.steps ++ y.steps;
-  may = may_append x.steps y.steps b x.may (subst (λ e. MayRun y.steps e) (sym x.ends) y.may);
-  ends = run_append x.steps y.steps b ∙ ap (run y.steps) x.ends ∙ y.ends;
-}
+and_then b c d x y = grind (arith, common_steps, may_append, run_append)
 
 pub keeps_sound : (first : ℕ) (b c : Both) → Runs b c → IsSound first b → IsSound first c
 keeps_sound first b c r s = subst (λ e. IsSound first e) r.ends (run_keeps first r.steps b s r.may)
@@ -65,6 +63,4 @@ module _ (device : Seat) where
       and_then _ _ _ (all_run v older may.0 (got_before Driver device.log step (done Driver older v) got)) (step_runs Driver step (beside_device (done Driver older v)) may.1 got)
 
   pub goes_run : (v w : Seat) → Goes Driver v w → HasGotAll w.log device.log → Runs (beside_device v) (beside_device w)
-  goes_run v w goes got =
-      subst (λ (x : Seat). Runs (beside_device v) (beside_device x)) goes.ends
-      (all_run v goes.steps goes.may (subst (λ (x : Seat). HasGotAll x.log device.log) (sym goes.ends) got))
+  goes_run v w goes got = grind (arith, common_steps, all_run)

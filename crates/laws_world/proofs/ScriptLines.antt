@@ -1,4 +1,6 @@
 -- Each line of a script, and so each script, is a list of events.
+use Rattle.std.proofs.lemmas.Grind.{common_steps}
+use Rattle.std.proofs.Common.{arith}
 use Rattle.std.proofs.{Common.{◌≡◌, ℕ, true, List, [], ◌∷◌, ◌++◌, refl, sym}, lemmas.List.append-nil}
 use Rattle.vs_flow.specs.Connection.{Connection}
 use Rattle.vs_outside.specs.Host.{HostContents}
@@ -27,9 +29,7 @@ line_leads (HostClosed stream) w rest may = leads_one (HostCloses stream) w _ re
 line_leads (HostFail n) w rest may = leads_one (HostFails n) w _ refl
 
 pub line_rests : (l : Line) (w : World) → is_at_rest w.rings.driver.staged ≡ true → is_at_rest (line l w).0.rings.driver.staged ≡ true
-line_rests (Guest call) w rest = call_rests w rest call
-line_rests Poll w rest = (poll_does w rest).rest
-line_rests x w rest = rest
+line_rests x w rest = grind (arith, common_steps, call_rests, poll_does)
 
 pub line_sends : (opened : ℕ → Connection) (c : Connection) (l : Line) (w : World)
     → sent_to opened c (line l w).0.journal ≡ sent_to opened c w.journal ++ sent_by opened c l w

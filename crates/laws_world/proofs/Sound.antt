@@ -31,7 +31,7 @@ use Rattle.laws_device.{specs.{Carried.Streamed.{IsStreamed, Ports, changing, po
 use Rattle.laws_device.proofs.{Carried.{Changing.listened_host, HostCalls.{client_host, same_host}, Hosts.{counts_still, unseen}}, Carrying.{IsToldBy, StreamedOver, With}, Chains.Among, Seats.Carried}
 use Rattle.laws_device.proofs.{Seats.PutsFit, Keeping.{keeps_then, Keeps as DeviceKeeps, keeps_weaker as device_weaker}, Turning.tick_slot_keeps, Dropping.{P, alone, calls}}
 use Rattle.laws_device.proofs.{Dropping.{keeps_both, moving, publishes, tx_calls}, Walk.Fields.fields}
-use Rattle.vs_limits.specs.declared.TheConstants.{GUEST_CID_MIN, GUEST_CID_MAX, ASSIGNED_FIRST}
+use Rattle.vs_limits.specs.declared.TheConstants.{ASSIGNED_FIRST}
 use Rattle.vs_ring_list.{proofs.{Held.same_queue_is, Ties.{device_got, driver_got, tied-publish}}, specs.{Ends.device_contents, Sound.IsTied}}
 use Rattle.laws_tables.proofs.Going.{stays as seat_stays}
 use Rattle.laws_proxy.proofs.{Growing.{flow_grow_proxied, flow_grow_stays}, Shaking.{Goes-on, Turns, accepts, reads_byte, ticks}, Turning.{Proxied, proxy_reset_keeps}}
@@ -293,11 +293,7 @@ module _ (fresh : Type 0) (w : World) (well : IsWell fresh w) where
 
   -- What it counted so far.
   pub counted_now : (n : ℕ) → P first_cid None (fields w.proxy.device) (around_it n)
-  counted_now n = record {
-    sure = tt;
-    told = λ l is on. subst (λ (k : EndLog). IsCounted first_cid w.proxy.device.cid w.proxy.device.dropped w.proxy.device.failed k.entries)
-        (one_told is) well.counted;
-  }
+  counted_now n = grind (arith, common_steps, one_told)
 
   device_goes : {A : Type 0} (tree : DeviceTree A) (state_of : A → ProxyState) → DeviceKeeps (λ x d. Proxied carry first_cid (state_of x) d) tree (around_it 0)
       → moved.Keeps moving (λ x d. P first_cid None (fields (state_of x).device) d) tree (around_it 0)
@@ -434,9 +430,7 @@ module _ (fresh : Type 0) (w : World) (well : IsWell fresh w) where
   host_goes host streams = outside_goes w.proxy.device.now host streams
 
   guest_cid_fits : (cid : ℕ) → is_guest_cid cid ≡ true → cid < 2 ^ 64
-  guest_cid_fits cid is =
-      let below : nat_le cid GUEST_CID_MAX ≡ true = (and_parts (nat_le GUEST_CID_MIN cid) (nat_le cid GUEST_CID_MAX) is).1 in
-      let less : cid ≤ GUEST_CID_MAX = grind (arith, nat_tests, below) in omega (arith, less)
+  guest_cid_fits cid is = grind (arith, common_steps, and_parts)
 
   pub happens_goes : (e : Event) → Goes well (happens e w)
   happens_goes (GuestCalls call) =

@@ -3,17 +3,12 @@ use Rattle.std.proofs.Common.{◌≡◌, ℕ, zero, suc, ◌+◌, ◌-◌, ◌&&
 use Rattle.std.proofs.{Common.{subst, ◌∙◌}, lemmas.Grind.common_steps}
 use Rattle.vs_contents.specs.CallTree.{Done, Ask, bind, played, while_up_to}
 use Rattle.vs_conn.specs.{declared.end.Verdict.Verdict}
-use Rattle.vs_flow.specs.{Flow.is_assigned, Table.{has_place}}
 use Rattle.vs_header.specs.{declared.{Header.Header}, Packet.header_of}
-use Rattle.vs_outside.specs.declared.host_net.Dialed.{Dialed}
-use Rattle.vs_page.specs.{Log.{flow_to_host}}
-use Rattle.vs_replies.specs.Owed.{reply_to}
 use Rattle.vs_ring_port.specs.{Chains.bytes_in, Contents.{Given, PublishCid, Read, Return, Take, Write}, EndLog.EndLog, Lists.chain_with, declared.device_ring.Chain.Chain}
 use Rattle.vs_ring_port.specs.declared.failure.Failure.{Failure}
-use Rattle.vs_uds.specs.Path.{path_of}
-use Rattle.vs_device_parts.specs.{Transmitting.{dial_answered, failing, on_next, on_packet, refused, try_request, unknown_why}}
-use Rattle.vs_device_parts.specs.{Steps.{chain_came, puts_event, returns, takes_chain}, Calls.{Answer, Call, DeviceTree, Dial, Ring}}
-use Rattle.vs_device_parts.specs.{Connections.{with_reply}, Receiving.pay_event_of, State.{DeviceState}}
+use Rattle.vs_device_parts.specs.{Transmitting.{failing, on_next, on_packet}}
+use Rattle.vs_device_parts.specs.{Steps.{chain_came, puts_event, returns, takes_chain}, Calls.{Answer, Call, DeviceTree, Ring}}
+use Rattle.vs_device_parts.specs.{Receiving.pay_event_of, State.{DeviceState}}
 use Rattle.vs_device_parts.specs.declared.answers.Taken.{Taken}
 use Rattle.vs_limits.specs.declared.TheConstants.{DEVICE_REPLIES}
 use Rattle.vs_proxy_parts.specs.{Turns.{device_after, event_stage, take_one, take_stage, took_packet}, State.{Turning, with_device}}
@@ -62,25 +57,6 @@ abbrev Fine : DeviceTree (DeviceState × Verdict) → Type 0
 Fine tree = OffRing (λ (r : DeviceState × Verdict). r.0.failed ≡ None) tree
 
 module _ (chain : Chain) (h : Header) (s : DeviceState) (fine : s.failed ≡ None) where
-  dial_off : (d : Dialed) → (dial_answered h d s).0.failed ≡ None
-  dial_off (dialed.Stream stream) = fine
-  dial_off x = fine
-
-  tries_off : (a b : Bool) → Fine (cond a (Done (refused h s)) (cond b
-      (Ask (Dial (path_of s.base h.dst_port) (flow_to_host h)) (λ answer. Done (dial_answered h answer s))) (Done (refused h s))))
-  tries_off true b = fine
-  tries_off false true = (tt, dial_off)
-  tries_off false false = fine
-
-  unknown_off : (a b : Bool) → Fine (cond a (Done (s, verdict.Ignore)) (cond b (try_request h s) (Done (
-    with_reply
-        (reply_to (flow_to_host h) h) s,
-    verdict.Rst (unknown_why h),
-  ))))
-  unknown_off true b = fine
-  unknown_off false true = tries_off (is_assigned h.dst_port) (has_place s.table)
-  unknown_off false false = fine
-
   packet_off : Fine (on_packet chain h s)
   packet_off = grind (arith, common_steps)
 
