@@ -1,13 +1,11 @@
 -- Drivers whose connections differ in no more than what they ask for of credit.
-use Rattle.std.proofs.Common.{◌≡◌, ◌==◌, ◌||◌, ◌+◌, ℕ, nat_le, not, Bool, true, false, cond, List, [], ◌∷◌, map, length, Option, Some, None, refl, sym, ap, subst, ◌∙◌, arith}
+use Rattle.std.proofs.Common.{◌≡◌, ◌==◌, ◌||◌, ℕ, not, Bool, true, false, cond, List, [], ◌∷◌, map, Option, Some, None, refl, sym, ap, subst, ◌∙◌, arith}
 use Rattle.std.{proofs.{Math.Path.fun_ext, lemmas.{Bool.eq-eqb, Grind.common_steps, List.length-map}}, specs.{Option.option_map, Prelude.{find, is_some}}}
-use Rattle.vs_conn.specs.{End.{ConnectionEnd, may_send_of, state_may_send, wanting_credit}, declared.end.State.{State, TheVariants.{Answering, Asked, Ended, Live}}}
+use Rattle.vs_conn.specs.{End.{ConnectionEnd, may_send_of, state_may_send, wanting_credit}, declared.end.State.{State}}
 use Rattle.vs_flow.{specs.Table.{revalued, slots}, proofs.Lookups.find-map_same}
-use Rattle.vs_limits.specs.declared.TheConstants.{DRIVER_CONNECTIONS}
-use Rattle.vs_driver_parts.specs.{Listening.{is_answered, listener_on, next_accepted}, Connections.{entry_answer, gone_answer, is_full, recv_of, state_of, state_shown, with_end}}
-use Rattle.vs_driver_parts.specs.State.{DriverConnection, DriverEntry, DriverState, GoneConnection, Listener, entry_known_as, gone_known_as, is_known_as}
+use Rattle.vs_driver_parts.specs.{Listening.{is_answered, next_accepted}, Connections.{entry_answer, gone_answer, is_full, recv_of, state_of, state_shown, with_end}}
+use Rattle.vs_driver_parts.specs.State.{DriverConnection, DriverEntry, DriverState, GoneConnection, entry_known_as, gone_known_as, is_known_as}
 use Rattle.vs_driver_parts.specs.declared.answers.{ConnectionState.ConnectionState, Received.Received}
-use Rattle.laws_driver.specs.Honest.{end_in}
 use Rattle.laws_rest.proofs.{Owing.same_slots, Quiet.in_list}
 use Rattle.laws_run.proofs.Still.{SameCore}
 use Rattle.vs_driver_parts.specs.declared.answers.ConnectionState.TheVariants as seen
@@ -41,10 +39,7 @@ pub leaves_none : (s : DriverState) → Leaves s s
 leaves_none s = λ apart. (apart, record { entries = refl; gone = refl; listeners = refl })
 
 pub leaves_then : (r s t : DriverState) → Leaves r s → Leaves s t → Leaves r t
-leaves_then r s t one two = λ apart.
-    let b = two apart in
-    let a = one b.0 in
-    (a.0, record { entries = b.1.entries ∙ a.1.entries; gone = b.1.gone ∙ a.1.gone; listeners = b.1.listeners ∙ a.1.listeners })
+leaves_then r s t one two = grind (arith, common_steps)
 
 pub leaves_core : (s t : DriverState) → SameCore s t → Leaves s t
 leaves_core s t same = grind (arith, common_steps)
@@ -106,10 +101,7 @@ quieted_same p (x ∷ es) e c apart at same = by (p x) at (quieted_same p es e c
         ∙ ap (λ (ys : List DriverEntry). quieted x ∷ ys) (rest is same)
 
 pub leaves_wanting : (id : ℕ) (s : DriverState) (e : DriverEntry) → entry_known_as id s ≡ Some e → Leaves s (with_end (wanting_credit e.value.end) e s)
-leaves_wanting id s e at = λ apart.
-    let v : DriverConnection = record e.value { end = wanting_credit e.value.end } in
-    let was : HasApart s = subst AreApart (same_slots end_in s.table e.slot v) apart in
-    (was, record { entries = quieted_same (is_known_as id) s.table.entries e v was at refl; gone = refl; listeners = refl })
+leaves_wanting id s e at = grind (arith, common_steps, same_slots, quieted_same)
 
 -- What alike drivers tell of a connection.
 module _ (s t : DriverState) (alike : Alike s t) where
@@ -131,25 +123,16 @@ module _ (s t : DriverState) (alike : Alike s t) where
   known_too id e at = known_in id e (entry_known_as id t) (entry_known_as id s) (known_alike id) at refl
 
   may_send_calmed : (st : State) (x : ConnectionEnd) → state_may_send st (calmed x) ≡ state_may_send st x
-  may_send_calmed Live x = refl
-  may_send_calmed Ended x = refl
-  may_send_calmed Asked x = refl
-  may_send_calmed Answering x = refl
+  may_send_calmed st x = grind (arith, common_steps)
 
   pub may_send_too : (id : ℕ) (e : DriverEntry) (at : entry_known_as id s ≡ Some e)
       → may_send_of (known_too id e at).entry.value.end ≡ may_send_of e.value.end
-  may_send_too id e at =
-      let too = (known_too id e at).entry in
-      sym (may_send_calmed too.value.end.state too.value.end) ∙ ap (λ (x : DriverEntry). may_send_of x.value.end) (known_too id e at).same
-      ∙ may_send_calmed e.value.end.state e.value.end
+  may_send_too id e at = grind (arith, common_steps, known_too, may_send_calmed)
 
   by_entry : {A : Type 0} (f : DriverEntry → A) (d : A) → ((e : DriverEntry) → f (quieted e) ≡ f e) → (o q : Option DriverEntry)
       → option_map quieted o ≡ option_map quieted q
       → elim o as (λ _. A) [ None ↦ d | Some e ↦ f e ] ≡ elim q as (λ _. A) [ None ↦ d | Some e ↦ f e ]
-  by_entry f d same None None is = refl
-  by_entry f d same None (Some b) is = absurd cc
-  by_entry f d same (Some a) None is = absurd cc
-  by_entry f d same (Some a) (Some b) is = let like : quieted a ≡ quieted b = cc in sym (same a) ∙ ap f like ∙ same b
+  by_entry f d same o q is = grind (arith, common_steps)
 
   pub recv_alike : (id n : ℕ) → recv_of id n t ≡ recv_of id n s
   recv_alike id n =
@@ -172,11 +155,7 @@ module _ (s t : DriverState) (alike : Alike s t) where
 
   -- Whether all slots are held, and who may be accepted on a port.
   pub full_alike : is_full t ≡ is_full s
-  full_alike =
-      let many : length t.table.entries ≡ length s.table.entries =
-      sym (length-map t.table.entries quieted) ∙ ap (λ (es : List DriverEntry). length es) alike.entries ∙ length-map s.table.entries quieted in
-      ap (λ (n : ℕ). nat_le DRIVER_CONNECTIONS (n + length t.gone)) many
-      ∙ ap (λ (gs : List GoneConnection). nat_le DRIVER_CONNECTIONS (length s.table.entries + length gs)) alike.gone
+  full_alike = grind (arith, common_steps, length-map)
 
   answered_alike : (id : ℕ) → is_answered t id ≡ is_answered s id
   answered_alike id =
@@ -187,7 +166,4 @@ module _ (s t : DriverState) (alike : Alike s t) where
       ]) alike.gone
 
   pub accepted_alike : (port : ℕ) → next_accepted port t ≡ next_accepted port s
-  accepted_alike port =
-      ap (λ (ls : List Listener). elim (listener_on port ls) as (λ _. Option ℕ) [ None ↦ None | Some l ↦ find (is_answered t) l.waiting ]) alike.listeners
-      ∙ ap (λ (test : ℕ → Bool). elim (listener_on port s.listeners) as (λ _. Option ℕ) [ None ↦ None | Some l ↦ find test l.waiting ])
-      (fun_ext answered_alike)
+  accepted_alike port = grind (arith, common_steps, fun_ext, answered_alike)

@@ -102,20 +102,13 @@ sending = record {
 }
 
 pub full_sending_all : (act : Act) (p : Progress) → is_complete act p ≡ true → sent_by act + exchanged_by act ≤ p.sent
-full_sending_all (Send c) p is = let most = at_most (size_of c) p.sent is in omega (arith, most)
-full_sending_all (Exchange c) p is =
-    let most = at_most (size_of c) p.sent (and_parts (nat_le (size_of c) p.sent) (nat_le (size_of c) p.got) is).0 in omega (arith, most)
-full_sending_all _ p is = omega arith
+full_sending_all act p is = grind (arith, common_steps, at_most, and_parts)
 
 pub still_sending_all : (act : Act) → moves act ≡ false → sent_by act + exchanged_by act ≡ 0
-still_sending_all (Send c) is = absurd cc
-still_sending_all (Exchange c) is = absurd cc
-still_sending_all _ is = omega arith
+still_sending_all act is = grind (arith, common_steps)
 
 pub fits_sending_all : (act : Act) (p : Progress) → (sent_by act + exchanged_by act ≡ 0) ⊎ AreOf is_move (calls_next act p)
-fits_sending_all (Send c) p = inr (refl, tt)
-fits_sending_all (Exchange c) p = inr (exchange_of c p)
-fits_sending_all _ p = inl (omega arith)
+fits_sending_all act p = grind (arith, common_steps, exchange_of)
 
 abbrev pub sending_all : Way
 sending_all = record {
@@ -133,19 +126,13 @@ sending_all = record {
 }
 
 pub full_receiving : (act : Act) (p : Progress) → is_complete act p ≡ true → received_in act ≤ p.got
-full_receiving (Recv n) p is = at_most n p.got is
-full_receiving (Exchange c) p is = at_most (size_of c) p.got (and_parts (nat_le (size_of c) p.sent) (nat_le (size_of c) p.got) is).1
-full_receiving _ p is = omega arith
+full_receiving act p is = grind (arith, common_steps, at_most, and_parts)
 
 pub still_receiving : (act : Act) → moves act ≡ false → received_in act ≡ 0
-still_receiving (Recv n) is = absurd cc
-still_receiving (Exchange c) is = absurd cc
-still_receiving _ is = refl
+still_receiving act is = grind (arith, common_steps)
 
 pub fits_receiving : (act : Act) (p : Progress) → (received_in act ≡ 0) ⊎ AreOf is_move (calls_next act p)
-fits_receiving (Recv n) p = inr (refl, tt)
-fits_receiving (Exchange c) p = inr (exchange_of c p)
-fits_receiving _ p = inl refl
+fits_receiving act p = grind (arith, common_steps, exchange_of)
 
 abbrev pub receiving : Way
 receiving = record {
@@ -228,14 +215,10 @@ module _ (w : Way) (id : ℕ) (acts : List Act) where
   least false n = omega arith
 
   part_least : (p : Progress) (journal : Journal) → part p journal ≤ w.count p
-  part_least p journal =
-      let one = least (is_at id p journal) (cond (is_moving (slice_get acts p.at)) (w.count p) 0) in
-      let two = least (is_moving (slice_get acts p.at)) (w.count p) in omega (arith, one, two)
+  part_least p journal = grind (arith, common_steps, least)
 
   done_most : (a b : Bool) (act : Act) → total w.size (cond a (cond b (act ∷ []) []) []) ≤ w.size act
-  done_most true true act = omega arith
-  done_most true false act = omega arith
-  done_most false b act = omega arith
+  done_most a b act = grind (arith, common_steps)
 
   done_none : (a b : Bool) (act : Act) → (a ≡ true → b ≡ false) → total w.size (cond a (cond b (act ∷ []) []) []) ≡ 0
   done_none true b act none = ap (λ (d : Bool). total w.size (cond d (act ∷ []) [])) (none refl)
@@ -255,32 +238,11 @@ module _ (w : Way) (id : ℕ) (acts : List Act) where
 
   -- Any other instruction.
   stays_or_goes : (act : Act) (ts : List Told) (p : Progress) → ((after_step act ts p).at ≡ p.at) ⊎ (w.count (after_step act ts p) ≡ 0)
-  stays_or_goes act ts p = by (step_wait ts)
-    where
-      goes : (q : Progress) (b : Bool) → q.at ≡ p.at → ((cond b (on_to_next q) q).at ≡ p.at) ⊎ (w.count (cond b (on_to_next q) q) ≡ 0)
-      goes q true is = inr (w.fresh q)
-      goes q false is = inl is
-
-      by : (o : Option WaitsFor) → let q : Progress = elim o [ Some why ↦ p | None ↦ goes_to act ts (all_counted act ts p) ] in (q.at ≡ p.at) ⊎ (w.count q ≡ 0)
-      by (Some why) = inl refl
-      by None = goes (all_counted act ts p) (is_any_end ts || is_complete act (all_counted act ts p)) (all_counted_at act ts p)
+  stays_or_goes act ts p = grind (arith, common_steps, all_counted_at)
 
   quiet : (act : Act) (ms : List Made) (p : Progress) (journal : Journal) → slice_get acts p.at ≡ Some act → moves act ≡ false
       → GoesTo act ms p (after_step act (told_in ms) p) journal (with_noted ms journal)
-  quiet act ms p journal at none =
-      let q : Progress = after_step act (told_in ms) p in
-      let more = tally_more ms journal in
-      let zero = stays q (with_noted ms journal) (stays_or_goes act (told_in ms) p) in
-      let most = done_most (is_at id p journal) (nat_lt p.at q.at) act in
-      let size = w.still act none in omega (arith, more, zero, most, size)
-    where
-      stays : (q : Progress) (js : Journal) → (q.at ≡ p.at) ⊎ (w.count q ≡ 0) → part q js ≡ 0
-      stays q js (inl same) =
-          let one = least (is_at id q js) (cond (is_moving (slice_get acts q.at)) (w.count q) 0) in
-          let zero : cond (is_moving (slice_get acts q.at)) (w.count q) 0 ≡ 0 =
-          ap (λ (n : ℕ). cond (is_moving (slice_get acts n)) (w.count q) 0) same ∙ ap (λ (o : Option Act). cond (is_moving o) (w.count q) 0) at
-          ∙ ap (λ (b : Bool). cond b (w.count q) 0) none in omega (arith, one, zero)
-      stays q js (inr zero) = let most = part_least q js in omega (arith, most, zero)
+  quiet act ms p journal at none = grind (arith, common_steps, tally_more, stays_or_goes, done_most, least, part_least)
 
   -- An instruction that moves bytes.
   shut_still : (n : ℕ) (ms : List Made) (journal : Journal) → AreMoves n ms → is_shut id (with_noted ms journal) ≡ is_shut id journal
@@ -439,10 +401,7 @@ module _ (w : Way) (id : ℕ) (acts : List Act) where
 
 -- The calls of a step that moves bytes.
 pub no_received : (r : Received) → id_told (told_recv r) ≡ None
-no_received (got.Got n) = refl
-no_received got.Empty = refl
-no_received got.NotOpen = refl
-no_received _ = refl
+no_received r = grind (arith, common_steps)
 
 record IsMoveCall (n : ℕ) (c : GuestCall) : Type 0 where
   named : id_in c ≡ Some n

@@ -1,4 +1,5 @@
 -- Clients without a label at rest: what is read of each that was accepted is one of the lines; and the oldest of all was accepted.
+use Rattle.std.proofs.lemmas.Grind.{common_steps}
 use Rattle.std.proofs.Common.{◌≡◌, ◌<◌, ◌+◌, ◌-◌, ◌==◌, ◌&&◌, not, ℕ, zero, suc, Bool, true, false, cond, List, [], ◌∷◌, length, get_or, slice_get, Option, Some, None, refl, sym, ap, subst, ◌∙◌, arith}
 use Rattle.std.proofs.lemmas.{Bool.Decides.nat_tests, List.{Folds.find_at, Sums.fails_before_first}, Option.{get_or_from_slice_get}}
 use Rattle.std.specs.{List.{All, find, position_or_len}, Option.{ForSome, is_none, option_map}}
@@ -9,7 +10,7 @@ use Rattle.vs_flow.proofs.Entries.{found_passes}
 use Rattle.vs_page.specs.Log.{Log}
 use Rattle.vs_device_parts.specs.State.{DeviceConnection}
 use Rattle.vs_proxy_parts.specs.State.{Handshake, ProxyState}
-use Rattle.laws_device.specs.Carried.Streamed.{IsShaking, IsStreamed, Ports, Seen, connection_in, lasting, look, ports_of, reading, seen}
+use Rattle.laws_device.specs.Carried.Streamed.{IsShaking, IsStreamed, Ports, Seen, lasting, look, ports_of, reading, seen}
 use Rattle.laws_device.proofs.Carried.Hosts.{none_labelled, there}
 use Rattle.vs_ring_shared.specs.Sights.{DeviceSight, Sight, device_contents}
 use Rattle.vs_driver_parts.specs.State.{DriverState}
@@ -26,38 +27,25 @@ record IsFree (s : Stream) : Type 0 where
   still : is_closed s ≡ false
 
 free_by : (client : Bool) (label : Option Flow) (closed : Bool) → (client && (is_none label && not closed)) ≡ true → (client ≡ true) × (label ≡ None) × (closed ≡ false)
-free_by true None false is = (refl, refl, refl)
-free_by true None true is = absurd cc
-free_by true (Some f) closed is = absurd cc
-free_by false label closed is = absurd cc
+free_by client label closed is = grind (arith, common_steps)
 
 free_of : (s : Stream) → is_free s ≡ true → IsFree s
 free_of s is = let y = free_by s.by_client s.label (is_closed s) is in record { client = y.0; label = y.1; still = y.2 }
 
 is_free_of : (s : Stream) → IsFree s → is_free s ≡ true
-is_free_of s x =
-    ap (λ (b : Bool). b && (is_none s.label && not (is_closed s))) x.client ∙ ap (λ (o : Option Flow). is_none o && not (is_closed s)) x.label
-    ∙ ap (λ (b : Bool). not b) x.still
+is_free_of s x = grind (arith, common_steps)
 
 module _ (h : HostContents) (log : Log) (port : Ports) (t : Table DeviceConnection) (hands : List Handshake) (on : IsStreamed h log port t hands)
     (fresh : port.fresh ≡ true) where
   -- The stream at a place, and a stream of one of the lines.
   placed : (i : ℕ) (s : Stream) → slice_get h.streams i ≡ Some s → stream_at (i + 1) h ≡ Some s
-  placed i s at =
-      let some : (i + 1 == 0) ≡ false = grind (arith, nat_tests) in
-      let back : i + 1 - 1 ≡ i = omega arith in
-      ap (λ (b : Bool). cond b None (slice_get h.streams (i + 1 - 1))) some ∙ ap (λ (k : ℕ). slice_get h.streams k) back ∙ at
+  placed i s at = grind (arith, common_steps)
 
   looked : (i : ℕ) (s : Stream) → slice_get h.streams i ≡ Some s → look h (i + 1) ≡ Some (seen h (i + 1) s)
   looked i s at = ap (option_map (seen h (i + 1))) (placed i s at)
 
   shaking : (i : ℕ) (s : Stream) → IsFree s → is_waiting s ≡ false → IsShaking (seen h (i + 1) s)
-  shaking i s free taken = record {
-    client = free.client;
-    accepted = taken;
-    free = ap (option_map (connection_in h (i + 1))) free.label;
-    still = free.still;
-  }
+  shaking i s free taken = grind (arith, common_steps)
 
   module _ (read : All (λ (k : Handshake). (g : HostContents) → ◌≡◌ {A = Option HostContents} (Some h) (Some g) → ForSome (stream_at k.stream g) IsDry) hands) where
     dry_at : (i : ℕ) (s : Stream) → slice_get h.streams i ≡ Some s → IsFree s → is_waiting s ≡ false → IsDry s

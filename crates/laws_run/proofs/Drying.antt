@@ -4,18 +4,18 @@ use Rattle.std.proofs.Common.{slice_get, slice_set, ◌-◌, ◌≡◌, ◌≢�
 use Rattle.std.{proofs.{Common.{Some, None, refl, sym, ap, subst, ◌∙◌, arith}, lemmas.{Bool.{eq-eqb, eqb-true}, Option.same_Some}}, specs.Option.{ForSome, option_map}}
 use Rattle.std.specs.{Option.option_map_or, Prelude.{take}}
 use Rattle.vs_contents.specs.{CallTree.{Ask, Done, bind, for_each, while_up_to}}
-use Rattle.vs_conn.specs.{End.{ConnectionEnd, owes_of, wanting_credit, with_payload_sent, with_shut}, Headers.{owed_header, payload_header}, declared.end.{Owed.Owed, State.State}}
+use Rattle.vs_conn.specs.{End.{ConnectionEnd, wanting_credit, with_payload_sent, with_shut}, Headers.{payload_header}, declared.end.{State.State}}
 use Rattle.vs_credit.specs.Credit.{free_of}
-use Rattle.vs_flow.{specs.Table.{Table, entry_under, revalued, slots, with_value}, proofs.Lookups.entry_under-with_value}
+use Rattle.vs_flow.{specs.Table.{Table, entry_under, slots, with_value}, proofs.Lookups.entry_under-with_value}
 use Rattle.vs_header.specs.declared.Header.{Header}
-use Rattle.vs_outside.specs.{Host.{HostContents, Stream, with_stream, after_close, after_read, read_failed, stream_at}, declared.host_net.StreamRead.StreamRead}
+use Rattle.vs_outside.specs.{Host.{HostContents, Stream, with_stream, after_close, after_read, stream_at}, declared.host_net.StreamRead.StreamRead}
 use Rattle.vs_outside.proofs.Frames.{keeps_others, stream_at-with_stream}
 use Rattle.vs_replies.specs.declared.Reply.{Reply}
 use Rattle.vs_ring_port.specs.{declared.{device_ring.{Chain.Chain}}}
 use Rattle.vs_device_parts.specs.{Calls.{Allows, Answer, CloseStream, DeviceTree, HostMoves, IsReadOf, ReadStream, Situation}, Connections.{after_shut, cut_off}}
-use Rattle.vs_device_parts.specs.{Connections.{route_to_guest, with_connection, with_fault}, Playing.Runs, Receiving.{Filling, after_paying, hold, may_read, put_on}}
+use Rattle.vs_device_parts.specs.{Connections.{route_to_guest, with_connection, with_fault}, Playing.Runs, Receiving.{Filling, hold, may_read, put_on}}
 use Rattle.vs_device_parts.specs.Receiving.{put_owed, put_packet, put_reply, put_reply_of, read_answered, read_room, read_stream, read_with_chain, reply_header, round_from}
-use Rattle.vs_device_parts.{specs.{Receiving.{serve_slot, written}, State.{DeviceConnection, DeviceEntry, DeviceState}, Steps.filling, Streams.closing}, proofs.Under.has_slot}
+use Rattle.vs_device_parts.{specs.{Receiving.{serve_slot}, State.{DeviceConnection, DeviceEntry, DeviceState}, Steps.filling, Streams.closing}, proofs.Under.has_slot}
 use Rattle.laws_device.{specs.{Named.Waiting.filling_of, Honest.end_in}, proofs.Walk.Keeping.{Asking, Keeps, keeps_then, keeps_weaker}}
 use Rattle.laws_rest.proofs.{Owing.{listed, same_slots}, Quiet.in_list, Stages.in_round}
 use Rattle.laws_run.specs.Dry.{IsDry, IsDryAt, IsFull, IsFullAt, IsTaken, IsTakenAt, IsToldDry, IsToldFull, IsToldTaken, reads_of, reads_under, writes_of, writes_under}
@@ -73,10 +73,7 @@ pub record Calm (o q : Option HostContents) : Type 0 where
   pub taken : (id : ℕ) → IsToldTaken id o → IsToldTaken id q
 
 pub calm_same : (o q : Option HostContents) → q ≡ o → Calm o q
-calm_same o q same = record {
-  dry = λ id is. subst (λ (p : Option HostContents). IsToldDry id p) (sym same) is;
-  taken = λ id is. subst (λ (p : Option HostContents). IsToldTaken id p) (sym same) is;
-}
+calm_same o q same = grind (arith, common_steps)
 
 pub calm_both : (o q p : Option HostContents) → Calm o q → Calm q p → Calm o p
 calm_both o q p a b = record { dry = λ id is. b.dry id (a.dry id is); taken = λ id is. b.taken id (a.taken id is) }
@@ -88,11 +85,7 @@ pub record KeepsFull (t : Table DeviceConnection) (o : Option HostContents) (u :
   pub calm : Calm o q
 
 keeps_same : (t : Table DeviceConnection) (o : Option HostContents) (u : Table DeviceConnection) (q : Option HostContents) → u ≡ t → q ≡ o → KeepsFull t o u q
-keeps_same t o u q table host = record {
-  less = λ n id at. ap (λ (v : Table DeviceConnection). writes_under n v) (sym table) ∙ at;
-  full = λ id is. subst (λ (p : Option HostContents). IsToldFull id p) (sym host) is;
-  calm = calm_same o q host;
-}
+keeps_same t o u q table host = grind (arith, common_steps, calm_same)
 
 keeps_both : (t : Table DeviceConnection) (o : Option HostContents) (u : Table DeviceConnection) (q : Option HostContents) (v : Table DeviceConnection)
     (p : Option HostContents) → KeepsFull t o u q → KeepsFull u q v p → KeepsFull t o v p
@@ -142,10 +135,7 @@ held_none N r c q d held none = is_over N r c q d held.step.rises (held.over non
 -- A packet is put, or the stage is over.
 one_put : (chain : Chain) (h : Header) (payload : List ℕ) (q : Filling) (d : Situation)
     → Keeps allowed (λ p e. p.put ≡ q.put + 1) (put_on chain h payload q) d
-one_put chain h payload q d =
-    keeps_then allowed (λ p e. p.put ≡ q.put + 1) (λ u e. Unit {0}) (written chain h payload)
-    (λ u. Done (record q { state = record q.state { chain = None }; put = q.put + 1 })) d
-    (keeps_any (λ u e. Unit {0}) (λ u e. tt) (written chain h payload) d) (λ u e any. refl)
+one_put chain h payload q d = grind (arith, common_steps, keeps_then, keeps_any)
 
 puts_packet : (N : Relation) (h : Header) (f : DeviceState → DeviceTree DeviceState) (r : Filling) (c : Situation) → r.over ≡ false
     → Keeps allowed (λ x d. Step N r c x d) (put_packet h f r) c
@@ -195,11 +185,7 @@ stays_while step each (suc n) r c on =
 
 -- What goes on says so only while the stage isn't over.
 going : (r : Filling) (c : Situation) (q : Filling) (d : Situation) → Step Same r c q d → Going r c (q, not q.over) d
-going r c q d step = (step, λ on. by q.over on)
-  where
-    by : (b : Bool) → not b ≡ true → b ≡ false
-    by true is = absurd cc
-    by false is = refl
+going r c q d step = grind (arith, common_steps)
 
 puts_going : (h : Header) (f : DeviceState → DeviceTree DeviceState) (r : Filling) (c : Situation) → r.over ≡ false
     → Keeps allowed (Going r c) (bind (put_packet h f r) (λ q. Done (q, not q.over))) c
@@ -212,26 +198,7 @@ puts_reply [] r c on = (still r c on, λ no. absurd cc)
 puts_reply (reply ∷ rs) r c on = puts_going (reply_header reply r.state) (λ s. Done (record s { replies = rs })) r c on
 
 puts_owed : (slot : ℕ) (r : Filling) (c : Situation) → r.over ≡ false → Keeps allowed (Going r c) (put_owed slot r) c
-puts_owed slot r c on = by (entry_under r.state.table slot)
-  where
-    owing : (e : DeviceEntry) (w : Option Owed) → Keeps allowed (Going r c) (elim w as (λ _. DeviceTree (Filling × Bool)) [
-      | None ↦ Done (r, false)
-      | Some what ↦
-          bind (put_packet (owed_header e.value.end (route_to_guest r.state.cid e.flow) what) (after_paying what e) r) (λ q. Done (q, not q.over))
-    ]) c
-    owing e None = (still r c on, λ no. absurd cc)
-    owing e (Some what) = puts_going (owed_header e.value.end (route_to_guest r.state.cid e.flow) what) (after_paying what e) r c on
-
-    by : (o : Option DeviceEntry) → Keeps allowed (Going r c) (elim o as (λ _. DeviceTree (Filling × Bool)) [
-      | None ↦ Done (r, false)
-      | Some e ↦ elim (owes_of e.value.end) [
-        | None ↦ Done (r, false)
-        | Some what ↦
-            bind (put_packet (owed_header e.value.end (route_to_guest r.state.cid e.flow) what) (after_paying what e) r) (λ q. Done (q, not q.over))
-      ]
-    ]) c
-    by None = (still r c on, λ no. absurd cc)
-    by (Some e) = owing e (owes_of e.value.end)
+puts_owed slot r c on = grind (arith, common_steps, Keeps, still, puts_going)
 
 -- Another connection under a slot.
 abbrev pub under : (DeviceEntry → Option ℕ) → ℕ → Table DeviceConnection → Option ℕ
@@ -239,23 +206,11 @@ under look slot t = elim (entry_under t slot) as (λ _. Option ℕ) [ None ↦ N
 
 pub under_other : (look : DeviceEntry → Option ℕ) (t : Table DeviceConnection) (slot n : ℕ) (v : DeviceConnection) → (n == slot) ≡ false
     → under look n (with_value t slot v) ≡ under look n t
-under_other look t slot n v other =
-    ap (λ (o : Option DeviceEntry). elim o as (λ _. Option ℕ) [ None ↦ None | Some e ↦ look e ]) (entry_under-with_value t slot v n ∙ by (entry_under t n) refl)
-  where
-    kept : (e : DeviceEntry) (b : Bool) → (e.slot == slot) ≡ b → e.slot ≡ n → revalued slot v e ≡ e
-    kept e true is here = absurd (let no : true ≡ false = sym is ∙ ap (λ (m : ℕ). m == slot) here ∙ other in cc)
-    kept e false is here = ap (λ (b : Bool). cond b (record e { value = v }) e) is
-
-    by : (o : Option DeviceEntry) → entry_under t n ≡ o → option_map (revalued slot v) o ≡ o
-    by None at = refl
-    by (Some e) at = ap (λ (x : DeviceEntry). let q : Option DeviceEntry = Some x in q) (kept e (e.slot == slot) refl (has_slot t n e at))
+under_other look t slot n v other = grind (arith, common_steps, entry_under-with_value, has_slot)
 
 pub under_own : (look : DeviceEntry → Option ℕ) (t : Table DeviceConnection) (slot : ℕ) (e : DeviceEntry) (v : DeviceConnection) → entry_under t slot ≡ Some e
     → under look slot (with_value t slot v) ≡ look (record e { value = v })
-under_own look t slot e v at =
-    ap (λ (o : Option DeviceEntry). elim o as (λ _. Option ℕ) [ None ↦ None | Some x ↦ look x ])
-    (entry_under-with_value t slot v slot ∙ ap (λ (o : Option DeviceEntry). option_map (revalued slot v) o) at)
-    ∙ ap (λ (b : Bool). look (cond b (record e { value = v }) e)) (ap (λ (m : ℕ). m == slot) (has_slot t slot e at) ∙ eq-eqb slot slot refl)
+under_own look t slot e v at = grind (arith, common_steps, entry_under-with_value, has_slot, eq-eqb)
 
 pub under_at : (look : DeviceEntry → Option ℕ) (t : Table DeviceConnection) (slot : ℕ) (o : Option DeviceEntry) → entry_under t slot ≡ o
     → under look slot t ≡ elim o as (λ _. Option ℕ) [ None ↦ None | Some e ↦ look e ]
@@ -334,26 +289,17 @@ pub full_closed : (i id : ℕ) (h : HostContents) → IsFullAt i h → IsFullAt 
 full_closed i id h = stays_with IsFull (λ s. record s { state = state.Closed }) (λ s is. is) i id h
 
 full_read : (a : StreamRead) (stream i : ℕ) (h : HostContents) → IsQuiet a → IsFullAt i h → IsFullAt i (after_read stream a h)
-full_read (read.Got n) stream i h quiet full = absurd quiet
-full_read read.Again stream i h quiet full = full
-full_read read.End stream i h quiet full = full
-full_read read.Failed stream i h quiet full = full
+full_read a stream i h quiet full = grind (arith, common_steps)
 
 dry_read : (a : StreamRead) (stream i : ℕ) (h : HostContents) → IsQuiet a → IsDryAt i h → IsDryAt i (after_read stream a h)
-dry_read (read.Got n) stream i h quiet dry = absurd quiet
-dry_read read.Again stream i h quiet dry = dry
-dry_read read.End stream i h quiet dry = dry
-dry_read read.Failed stream i h quiet dry = dry
+dry_read a stream i h quiet dry = grind (arith, common_steps)
 
 -- The same of streams that wait.
 taken_closed : (i id : ℕ) (h : HostContents) → IsTakenAt i h → IsTakenAt i (after_close id h)
 taken_closed i id h = stays_with IsTaken (λ s. record s { state = state.Closed }) (λ s is. refl) i id h
 
 taken_read : (a : StreamRead) (stream i : ℕ) (h : HostContents) → IsQuiet a → IsTakenAt i h → IsTakenAt i (after_read stream a h)
-taken_read (read.Got n) stream i h quiet taken = absurd quiet
-taken_read read.Again stream i h quiet taken = taken
-taken_read read.End stream i h quiet taken = taken
-taken_read read.Failed stream i h quiet taken = taken
+taken_read a stream i h quiet taken = grind (arith, common_steps)
 
 pub calm_moves : (failed : Bool) (P : HostContents → Type 0) (f : HostContents → HostContents) (c d : Situation) → HostMoves failed P f c d
     → ((id : ℕ) (h : HostContents) → IsDryAt id h → IsDryAt id (f h)) → ((id : ℕ) (h : HostContents) → IsTakenAt id h → IsTakenAt id (f h)) → Calm c.host d.host
@@ -365,9 +311,7 @@ calm_close stream c d moves = calm_moves false (λ h. Unit {0}) (after_close str
 
 pub calm_read : (a : StreamRead) (stream room : ℕ) (payload : List ℕ) (c d : Situation) → IsQuiet a → Allows (ReadStream stream room) (a, payload) c d
     → Calm c.host d.host
-calm_read a stream room payload c d quiet made =
-    calm_moves (read_failed a) (IsReadOf stream room (a, payload)) (after_read stream a) c d made.0 (λ id h dry. dry_read a stream id h quiet dry)
-    (λ id h taken. taken_read a stream id h quiet taken)
+calm_read a stream room payload c d quiet made = grind (arith, common_steps, calm_moves, dry_read, taken_read)
 
 -- What Again says of a stream.
 pub told_again : (stream room : ℕ) (c d : Situation) (payload : List ℕ)
@@ -395,9 +339,7 @@ module _ (e : DeviceEntry) where
 
   read_full : (a : StreamRead) (room : ℕ) (payload : List ℕ) (c d : Situation) → IsQuiet a
       → Allows (ReadStream e.value.stream room) (a, payload) c d → (id : ℕ) → IsToldFull id c.host → IsToldFull id d.host
-  read_full a room payload c d quiet made =
-      host_moves IsFullAt (read_failed a) (IsReadOf e.value.stream room (a, payload)) (after_read e.value.stream a) c d made.0
-      (λ id h full. full_read a e.value.stream id h quiet full)
+  read_full a room payload c d quiet made = grind (arith, common_steps, host_moves, full_read)
 
   -- A connection that shuts has no more to write than before.
   shut_writes : (bits now : ℕ) (v : DeviceConnection) (id : ℕ) → writes_of (record e { value = after_shut bits now v }) ≡ Some id

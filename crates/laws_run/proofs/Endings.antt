@@ -1,4 +1,5 @@
 -- In the last round each app found its instructions done, or noted that it waits; so it ended.
+use Rattle.std.proofs.lemmas.Grind.{common_steps}
 use Rattle.std.proofs.Common.{◌≡◌, ◌≢◌, ◌⊎◌, inl, inr, ℕ, zero, suc, ◌+◌, ◌-◌, ◌<◌, ◌≤◌, ◌==◌, nat_lt, Bool, true, false, cond, List, [], ◌∷◌, length, Option, Some, None, refl}
 use Rattle.std.proofs.{Common.{sym, ap, subst, ◌∙◌, arith, slice_get, slice_set, get_or-set_other, get_or-set_same, length-set}, lemmas.Bool.{Decides.nat_tests, eq-eqb, eqb-true}}
 use Rattle.vs_driver_parts.specs.{State.DriverState, declared.answers.Polled.Polled}
@@ -78,12 +79,7 @@ module _ (first : DriverState) where
 
   done_stood : (script : RunScript) (k : ℕ) (apps : List AppState) (entries : List Entry) (driver : DriverState)
       → slice_get (acts_of k script) (state_at k apps).progress.at ≡ None → Stood script k apps entries driver apps entries driver
-  done_stood script k apps entries driver none = record {
-    own = inl (past_end (acts_of k script) (state_at k apps).progress.at none);
-    others = λ j other ends. ends;
-    leaves = leaves_none driver;
-    room = λ room. room;
-  }
+  done_stood script k apps entries driver none = grind (arith, common_steps, past_end, leaves_none)
 
   apart : (k j app : ℕ) → (k == j) ≡ false → (app == j) ≡ true → (app == k) ≡ false
   apart k j app other own = grind (arith, nat_tests, other, own)

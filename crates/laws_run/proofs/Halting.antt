@@ -12,7 +12,7 @@ use Rattle.vs_driver_parts.specs.Connections.{after_recv, all_gone_after_read, c
 use Rattle.vs_driver_parts.specs.{Connections.{is_at_end, nothing_read, read_of, recv_of, state_of, unread_of_id, with_end}, Conversations.connect_of}
 use Rattle.vs_driver_parts.specs.Conversations.{connect_with_page, payload_of, reap_all, send_of, send_on, no_credit, not_sent}
 use Rattle.vs_driver_parts.specs.{Conversations.{send_stopped, send_with_credit, send_with_page}, Listening.{next_accepted, after_accept, accept_of, listener_on, with_waiting}}
-use Rattle.vs_driver_parts.specs.{Listening.without_id, Playing.{Plays, RingAllows}, State.{DriverEntry, DriverState, GoneConnection, Listener, entry_known_as, gone_known_as}}
+use Rattle.vs_driver_parts.specs.{Listening.without_id, Playing.{Plays, RingAllows}, State.{DriverEntry, DriverState, GoneConnection, entry_known_as, gone_known_as}}
 use Rattle.vs_driver_parts.specs.declared.answers.{Accepted.Accepted, ConnectError.ConnectError, ConnectionState.ConnectionState, Received.Received, Sent.Sent}
 use Rattle.laws_driver.specs.Carried.{Calls.{GuestCall, Made, ReplyTo, whole_call}, Received.bytes_got}
 use Rattle.laws_rest.proofs.Quiet.{ends_then}
@@ -84,33 +84,13 @@ stops_send id waits.Empty s t alike stops = stops
 stops_send id waits.NoneWaiting s t alike stops = stops
 
 stops_connecting : (why : WaitsFor) (s t : DriverState) → Alike s t → StopsConnect why s → StopsConnect why t
-stops_connecting waits.Full s t alike stops = full_alike s t alike ∙ stops
-stops_connecting (waits.NoDescriptor n) s t alike stops = tt
-stops_connecting waits.NotOpen s t alike stops = stops
-stops_connecting (waits.NoCredit tx alloc fwd) s t alike stops = stops
-stops_connecting waits.Empty s t alike stops = stops
-stops_connecting waits.NoneWaiting s t alike stops = stops
+stops_connecting why s t alike stops = grind (arith, common_steps, full_alike)
 
 stops_accepting : (port : ℕ) (why : WaitsFor) (s t : DriverState) → Alike s t → StopsAccept port why s → StopsAccept port why t
-stops_accepting port waits.NoneWaiting s t alike stops =
-    (ap (λ (ls : List Listener). is_some (listener_on port ls)) alike.listeners ∙ stops.0, accepted_alike s t alike port ∙ stops.1)
-stops_accepting port waits.Full s t alike stops = stops
-stops_accepting port (waits.NoDescriptor n) s t alike stops = stops
-stops_accepting port waits.NotOpen s t alike stops = stops
-stops_accepting port (waits.NoCredit tx alloc fwd) s t alike stops = stops
-stops_accepting port waits.Empty s t alike stops = stops
+stops_accepting port why s t alike stops = grind (arith, common_steps, accepted_alike)
 
 pub stops_alike : (c : GuestCall) (why : WaitsFor) (s t : DriverState) → Alike s t → Stops c why s → Stops c why t
-stops_alike (call.Send id bytes) why s t alike stops = stops_send id why s t alike stops
-stops_alike (call.Recv id n) why s t alike stops = ap (λ (r : Received). wait_of (told_recv r)) (recv_alike s t alike id n) ∙ stops
-stops_alike (call.LookAt id) why s t alike stops = ap (λ st. wait_of (told_look st)) (state_alike s t alike id) ∙ stops
-stops_alike (call.Connect port) why s t alike stops = stops_connecting why s t alike stops
-stops_alike (call.Listen port) why s t alike stops = stops
-stops_alike (call.Unlisten port) why s t alike stops = stops
-stops_alike (call.Accept port) why s t alike stops = stops_accepting port why s t alike stops
-stops_alike (call.Shutdown id bits) why s t alike stops = stops
-stops_alike (call.Grow id alloc) why s t alike stops = stops
-stops_alike (call.Close id) why s t alike stops = stops
+stops_alike c why s t alike stops = grind (arith, common_steps, stops_send, recv_alike, state_alike, stops_connecting, stops_accepting)
 
 -- A connect.
 abbrev Connects : DriverState → DriverState × Result ℕ ConnectError → Type 0
@@ -124,9 +104,7 @@ stops_connect host s r why at is = grind (arith, common_steps)
 stops_accept : (port : ℕ) (s : DriverState) (b : Bool) (o : Option ℕ) (why : WaitsFor) → is_some (listener_on port s.listeners) ≡ b → next_accepted port s ≡ o
     → wait_of (told_accept (cond b (elim o as (λ _. Accepted) [ None ↦ accepted.None | Some id ↦ accepted.Conn id ]) accepted.NotListening)) ≡ Some why
     → StopsAccept port why s
-stops_accept port s true None why listens none is = subst (λ (w : WaitsFor). StopsAccept port w s) (same_Some waits.NoneWaiting why is) (listens, none)
-stops_accept port s true (Some id) why listens some is = absurd cc
-stops_accept port s false o why listens none is = absurd cc
+stops_accept port s b o why listens none is = grind (arith, common_steps, same_Some)
 
 connects_page : (host : ℕ) (s t : DriverState) → SameCore s t → AllEnds (Connects s) (connect_with_page HOST_CID host t)
 connects_page host s t same = grind (arith, common_steps)
@@ -177,13 +155,7 @@ sends_credit id bytes e credit s at may = by (length bytes == 0) (credit == 0) r
 sends_may : (id : ℕ) (bytes : List ℕ) (e : DriverEntry) (s : DriverState) (r : Result ℕ Stop) → entry_known_as id s ≡ Some e
     → may_send_of e.value.end ≡ r
     → AllEnds (Sends id s) (elim r [ Err why ↦ Done (s, send_stopped why) | Ok credit ↦ send_with_credit e credit bytes s ])
-sends_may id bytes e s (Ok credit) at may = sends_credit id bytes e credit s at may
-sends_may id bytes e s (Err stop.Reset) at may = λ why waits. absurd cc
-sends_may id bytes e s (Err stop.ShutDown) at may = λ why waits. absurd cc
-sends_may id bytes e s (Err stop.NotOpen) at may = λ why so. (leaves_none s, stops why so, λ room. (room, subst IsRoomy (same_Some waits.NotOpen why so) tt))
-  where
-    stops : (why : WaitsFor) → wait_of (told_send sent.NotOpen) ≡ Some why → StopsSend id why s
-    stops why is = subst (λ (w : WaitsFor). StopsSend id w s) (same_Some waits.NotOpen why is) (record { entry = e; there = at; says = may })
+sends_may id bytes e s r at may = grind (arith, common_steps, sends_credit, leaves_none, same_Some)
 
 sends_as : (id : ℕ) (bytes : List ℕ) (s : DriverState) (o : Option DriverEntry) → entry_known_as id s ≡ o
     → AllEnds (Sends id s) (elim o [ None ↦ Done (s, not_sent id s) | Some e ↦ send_on e bytes s ])
@@ -208,17 +180,13 @@ recv_stays : (id n : ℕ) (s : DriverState) (o : Option DriverEntry) (q : Option
       | None ↦ elim q as (λ _. Received) [ None ↦ got.Unknown | Some g ↦ gone_answer n g ]
     ])) ≡ Some why
     → elim o as (λ _. DriverState) [ Some e ↦ entry_read n e s | None ↦ record s { gone = all_gone_after_read id n s.gone } ] ≡ s
-recv_stays id n s (Some e) q why waits = entry_stays n e s e.value.unread why refl waits
-recv_stays id n s None None why waits = absurd cc
-recv_stays id n s None (Some g) why waits = absurd (gone_stays n g g.unread why waits)
+recv_stays id n s o q why waits = grind (arith, common_steps, entry_stays, gone_stays)
 
 -- An accept.
 accept_stays : (port : ℕ) (s : DriverState) (b : Bool) (o : Option ℕ) (why : WaitsFor)
     → wait_of (told_accept (cond b (elim o as (λ _. Accepted) [ None ↦ accepted.None | Some id ↦ accepted.Conn id ]) accepted.NotListening)) ≡ Some why
     → elim o as (λ _. DriverState) [ None ↦ s | Some id ↦ record s { listeners = with_waiting port (without_id id) s.listeners } ] ≡ s
-accept_stays port s true None why waits = refl
-accept_stays port s true (Some id) why waits = absurd cc
-accept_stays port s false o why waits = absurd cc
+accept_stays port s b o why waits = grind (arith, common_steps)
 
 same_leaves : (s t : DriverState) → t ≡ s → Leaves s t
 same_leaves s t is = subst (λ (x : DriverState). Leaves s x) (sym is) (leaves_none s)
@@ -227,17 +195,10 @@ recv_roomy : (r : Received) (why : WaitsFor) → wait_of (told_recv r) ≡ Some 
 recv_roomy r why is = grind (arith, common_steps)
 
 look_roomy : (r : ConnectionState) (why : WaitsFor) → wait_of (told_look r) ≡ Some why → IsRoomy why
-look_roomy seen.Asked why is = subst IsRoomy (same_Some waits.NotOpen why is) tt
-look_roomy seen.Answering why is = absurd cc
-look_roomy seen.Live why is = absurd cc
-look_roomy seen.Ended why is = absurd cc
-look_roomy seen.Gone why is = absurd cc
-look_roomy seen.Unknown why is = absurd cc
+look_roomy r why is = grind (arith, common_steps, same_Some)
 
 accept_roomy : (r : Accepted) (why : WaitsFor) → wait_of (told_accept r) ≡ Some why → IsRoomy why
-accept_roomy accepted.None why is = subst IsRoomy (same_Some waits.NoneWaiting why is) tt
-accept_roomy (accepted.Conn id) why is = absurd cc
-accept_roomy accepted.NotListening why is = absurd cc
+accept_roomy r why is = grind (arith, common_steps, same_Some)
 
 pub waits_leave : (c : GuestCall) (s t : DriverState) (old new : RingContents) (reply : ReplyTo c) (why : WaitsFor)
     → Plays (whole_call c s) old (t, reply) new → wait_of (told_by c reply) ≡ Some why → Leaves s t × Stops c why s × (HasRoom s → HasRoom t × IsRoomy why)

@@ -1,14 +1,15 @@
 -- At rest a connect that waits finds all slots held, and an accept that waits finds each connection of its port whose stream is open with a line; and the report.
+use Rattle.std.proofs.lemmas.Grind.{common_steps}
 use Rattle.std.proofs.Common.{◌≡◌, ◌≢◌, ℕ, zero, suc, ◌+◌, ◌-◌, ◌<◌, ◌≤◌, ◌==◌, ◌||◌, ◌&&◌, nat_le, not, Bool, true, false, cond, List, [], ◌∷◌, ◌++◌, Option, Some, None, Contains}
-use Rattle.std.proofs.Common.{find, filter, is_some, length, map, option_and_then, slice_get, slice_index_or, refl, sym, ap, subst, ◌∙◌, arith, inl, inr, length-append}
+use Rattle.std.proofs.Common.{find, filter, is_some, length, map, slice_get, slice_index_or, refl, sym, ap, subst, ◌∙◌, arith, inl, inr, length-append}
 use Rattle.std.proofs.lemmas.{Bool.{Decides.nat_tests, and_parts, eq-eqb, eqb-true}, List.Elements.{All-append, All-contains, All-head, All-map, All-tail, Contains-append_left}}
 use Rattle.std.proofs.lemmas.List.{Elements.{Contains-append_right, Contains-get_or}, Folds.Any-from_list_any, FromFn.{get_or-range_with_len, length-range_with_len}, length-map}
 use Rattle.std.{proofs.lemmas.{Map.Made.{IsDistinct-from_AllPairs, is_member-Decides, length-le_from_is_member}, Option.{same_Some, slice_get_within}}, specs.Bool.Decides}
-use Rattle.std.specs.{List.{All, AllPairs, cons_option, filter_map, list_any, range_with_len}, Option.{option_map, option_map_or}, Prelude.position}
+use Rattle.std.specs.{List.{All, AllPairs, cons_option, filter_map, list_any, range_with_len}, Option.{option_map, option_map_or}}
 use Rattle.vs_conn.specs.declared.end.State.{State, TheVariants.Live}
 use Rattle.vs_flow.{specs.{Connection.Connection, Flow.host_asks, declared.flow.Flow.Flow}, proofs.Entries.none_found}
 use Rattle.vs_limits.specs.declared.TheConstants.{DRIVER_CONNECTIONS, FIRST_CID}
-use Rattle.vs_outside.specs.{Faults.one_more, Host.{HostContents, Stream, stream_at}, HostBytes.{connection_at, labelled_with, numbered_in, stream_of}}
+use Rattle.vs_outside.specs.{Faults.one_more, Host.{HostContents, Stream, stream_at}, HostBytes.{connection_at, stream_of}}
 use Rattle.vs_ring_shared.specs.Sights.{DeviceSight, Sight, device_contents, driver_contents, driver_log}
 use Rattle.vs_script.specs.App.{Act, Accept}
 use Rattle.vs_driver_parts.specs.{Connections.{is_full, table_shown as guest_shown}, Listening.{is_answered, listener_on, next_accepted}, State.{DriverEntry, DriverState}}
@@ -42,32 +43,13 @@ use Rattle.vs_run_report.specs.declared.ending.Ending.TheVariants as ending
 
 -- Which calls wait so.
 recv_waits : (r : Received) (why : WaitsFor) → wait_of (told_recv r) ≡ Some why → (why ≢ waits.Full) × (why ≢ waits.NoneWaiting)
-recv_waits (got.Got n) why is = absurd cc
-recv_waits got.Empty why is = (λ w. absurd (let other : waits.Empty ≡ waits.Full = same_Some waits.Empty why is ∙ w in cc), λ w. absurd (let other : waits.Empty ≡ waits.NoneWaiting = same_Some waits.Empty why is ∙ w in cc))
-recv_waits got.NotOpen why is = (λ w. absurd (let other : waits.NotOpen ≡ waits.Full = same_Some waits.NotOpen why is ∙ w in cc), λ w. absurd (let other : waits.NotOpen ≡ waits.NoneWaiting = same_Some waits.NotOpen why is ∙ w in cc))
-recv_waits got.End why is = absurd cc
-recv_waits got.Reset why is = absurd cc
-recv_waits got.Unknown why is = absurd cc
+recv_waits r why is = grind (arith, common_steps, same_Some)
 
 look_waits : (r : ConnectionState) (why : WaitsFor) → wait_of (told_look r) ≡ Some why → why ≢ waits.Full
-look_waits seen.Asked why is = λ w. absurd (let other : waits.NotOpen ≡ waits.Full = same_Some waits.NotOpen why is ∙ w in cc)
-look_waits seen.Answering why is = absurd cc
-look_waits seen.Live why is = absurd cc
-look_waits seen.Ended why is = absurd cc
-look_waits seen.Gone why is = absurd cc
-look_waits seen.Unknown why is = absurd cc
+look_waits r why is = grind (arith, common_steps, same_Some)
 
 full_call : (c : GuestCall) (s : DriverState) → Stops c waits.Full s → is_full s ≡ true
-full_call (call.Connect port) s stops = stops
-full_call (call.Recv id n) s stops = absurd ((recv_waits _ waits.Full stops).0 refl)
-full_call (call.LookAt id) s stops = absurd (look_waits _ waits.Full stops refl)
-full_call (call.Send id bytes) s stops = absurd stops
-full_call (call.Listen port) s stops = absurd stops
-full_call (call.Unlisten port) s stops = absurd stops
-full_call (call.Accept port) s stops = absurd stops
-full_call (call.Shutdown id bits) s stops = absurd stops
-full_call (call.Grow id alloc) s stops = absurd stops
-full_call (call.Close id) s stops = absurd stops
+full_call c s stops = grind (arith, common_steps, recv_waits, look_waits)
 
 -- Connections: one is itself; where all of one list, which differ, are in another, those are no fewer; and what is kept of a list, seen as connections.
 same_or_not : (c d : Connection) → Decides (is_same c d) (c ≡ d)
@@ -123,11 +105,7 @@ numbered (Some k) c some is = ap (λ (d : Connection). let o : Option Connection
 
 connection_seen : (id : ℕ) (st : Stream) (c : Connection) (h : HostContents) → 1 ≤ c.number → stream_at id h ≡ Some st → (seen_in h id st).label ≡ Some c
     → connection_at id h ≡ Some c
-connection_seen id st c h some at label =
-    let there = label_there h id st.label c label in
-    ap (option_and_then (λ s. option_and_then (λ f. numbered_in (labelled_with f h) id f) s.label)) at
-    ∙ ap (option_and_then (λ f. numbered_in (labelled_with f h) id f)) there.0
-    ∙ numbered (position (λ other. other == id) (labelled_with c.flow h)) c some there.1
+connection_seen id st c h some at label = grind (arith, common_steps, numbered)
 
 -- An id that waits, of whose list nobody is answered, isn't.
 none_answered : (test : ℕ → Bool) (id : ℕ) (ws : List ℕ) → find test ws ≡ None → list_any (λ w. w == id) ws ≡ true → test id ≡ true → ⊥

@@ -1,20 +1,19 @@
 -- At rest each connection of a client that has a line has its stream, and so has each that an app asked for whose REQUEST was served.
-use Rattle.std.proofs.Common.{◌≡◌, ◌≤◌, ◌⊎◌, ◌&&◌, ◌||◌, not, nat_lt, inl, inr, ℕ, Bool, true, false, List, [], ◌∷◌, length, refl, subst, ap, ◌∙◌, arith}
-use Rattle.std.{proofs.lemmas.{Bool.Decides.nat_tests, List.Elements.{All-cons, All-head, All-nil, All-tail}}, specs.List.All}
+use Rattle.std.proofs.lemmas.Grind.{common_steps}
+use Rattle.std.proofs.Common.{◌≡◌, ◌≤◌, ◌⊎◌, ◌&&◌, ◌||◌, not, ℕ, Bool, true, false, List, [], ◌∷◌, length, refl, subst, ap, ◌∙◌, arith}
+use Rattle.std.{proofs.lemmas.{List.Elements.{All-cons, All-head, All-nil, All-tail}}, specs.List.All}
 use Rattle.vs_conn.specs.End.{is_of}
 use Rattle.vs_limits.specs.declared.TheConstants.{DEVICE_CONNECTIONS}
 use Rattle.laws_history.specs.declared.packet.Packet.{Packet}
 use Rattle.vs_page.specs.{Log.{packets_got, packets_put}, declared.log.LogEntry.TheVariants.{GotPacket, PutPacket}}
 use Rattle.laws_rest.specs.Rest.{AreRouted}
 use Rattle.vs_flow.specs.{Connection.Connection, Flow.host_asks, Table.Table}
-use Rattle.laws_history.specs.Packets.{has, is_clean_rst, is_request}
-use Rattle.laws_history.specs.History.{puts}
+use Rattle.laws_history.specs.Packets.{is_request}
 use Rattle.vs_outside.specs.Host.{HostContents}
-use Rattle.vs_page.specs.{Fair.number_of, Log.{Device, Log, history_of}}
+use Rattle.vs_page.specs.{Fair.number_of, Log.{Device, Log}}
 use Rattle.vs_device_parts.specs.State.{DeviceConnection}
 use Rattle.vs_proxy_parts.specs.State.{Handshake}
-use Rattle.laws_tables.specs.Ends.{is_among}
-use Rattle.laws_device.specs.Carried.Streamed.{CountMatches, IsStreamed, Ports, Seen, asks_streams, count_in, heard_at, is_heard, serves}
+use Rattle.laws_device.specs.Carried.Streamed.{IsStreamed, Ports, Seen, asks_streams, count_in, heard_at, is_heard, serves}
 use Rattle.laws_device.proofs.Carried.Hosts.{stream_is, there}
 use Rattle.laws_apps.proofs.Placed.{or_second}
 use Rattle.laws_run.specs.Labels.{HasStream}
@@ -25,17 +24,10 @@ both_so true b rest is all = ap (λ (c : Bool). c && rest) (is refl) ∙ all
 both_so false b rest is all = all
 
 all_so : (a b lost d : Bool) → a ≡ true → b ≡ true → lost ≡ false → d ≡ true → (a && (b && (not lost && d))) ≡ true
-all_so true true false true a b lost d = refl
-all_so false b lost d is _ _ _ = absurd cc
-all_so true false lost d _ is _ _ = absurd cc
-all_so true true true d _ _ is _ = absurd cc
-all_so true true false false _ _ _ is = absurd cc
+all_so a b lost d one two three four = grind (arith, common_steps)
 
 module _ (h : HostContents) (log : Log) (port : Ports) (t : Table DeviceConnection) (hands : List Handshake) (on : IsStreamed h log port t hands)
     (c : Connection) (some : 1 ≤ c.number) where
-  abbrev marked : Bool
-  marked = has is_clean_rst (puts (history_of Device c.flow log)) || serves (heard_at h port).serving log c.flow
-
   -- A connection of which there are as many streams on its flow.
   pub has_stream : c.number ≤ count_in h c.flow → HasStream c h
   has_stream most =
@@ -48,26 +40,15 @@ module _ (h : HostContents) (log : Log) (port : Ports) (t : Table DeviceConnecti
 
   -- One that the device asked for.
   pub clients_stream : host_asks c.flow ≡ true → c.number ≤ number_of Device c.flow log → HasStream c h
-  clients_stream asks within =
-      let counted = subst (λ b. CountMatches b (count_in h c.flow) (number_of Device c.flow log) (is_among c.flow port.clean) marked) asks (on.streams.counted c.flow) in
-      let less = counted.0 in has_stream (omega (arith, within, less))
+  clients_stream asks within = grind (arith, common_steps, has_stream)
 
   -- One that the guest asked for, where its REQUEST was served.
   served_stream : host_asks c.flow ≡ false → c.number ≤ number_of Device c.flow log → serves (heard_at h port).serving log c.flow ≡ true → HasStream c h
-  served_stream asks within served =
-      let counted = subst (λ b. CountMatches b (count_in h c.flow) (number_of Device c.flow log) (is_among c.flow port.clean) marked) asks (on.streams.counted c.flow) in
-      let all = counted.1 (or_second (has is_clean_rst (puts (history_of Device c.flow log))) _ served) in has_stream (omega (arith, within, all))
+  served_stream asks within served = grind (arith, common_steps, or_second, has_stream)
 
   pub guests_stream : host_asks c.flow ≡ false → c.number ≤ number_of Device c.flow log → is_heard (heard_at h port).serving c.flow ≡ true
       → port.serving.lost ≡ false → asks_streams log ≡ true → HasStream c h ⊎ (DEVICE_CONNECTIONS ≤ length h.labelled)
-  guests_stream asks within heard kept streams = by (nat_lt port.serving.given port.serving.room) refl
-    where
-      by : (b : Bool) → nat_lt port.serving.given port.serving.room ≡ b → HasStream c h ⊎ (DEVICE_CONNECTIONS ≤ length h.labelled)
-      by true place = inl (served_stream asks within (all_so (is_heard (heard_at h port).serving c.flow) _ port.serving.lost _ heard place kept streams))
-      by false full =
-          let slots = on.streams.slots in
-          let most : port.serving.room ≤ port.serving.given = grind (arith, nat_tests, full) in
-          let room = slots.0 in let less = slots.1 in inr (omega (arith, most, room, less))
+  guests_stream asks within heard kept streams = grind (arith, common_steps, served_stream, all_so)
 
 -- All REQUESTs that came are of type stream, where all that the driver put are.
 abbrev AsksStream : Packet → Type 0

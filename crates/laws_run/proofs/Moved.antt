@@ -59,9 +59,7 @@ module _ (script : RunScript) (bytes : List ℕ) (k : ℕ) where
 
   next_same : (id : ℕ) (e : Entry) (older own : Journal) → is_shut id older ≡ is_shut id own → (b : Bool) → is_shut id (cond b [] (made_by script bytes e)) ≡ false
       → is_shut id (made_by script bytes e ++ older) ≡ is_shut id (cond b (made_by script bytes e) [] ++ own)
-  next_same id e older own same true none = shut_after id (made_by script bytes e) older ∙ ap (λ (b : Bool). is_shut id (made_by script bytes e) || b) same
-      ∙ sym (shut_after id (made_by script bytes e) own)
-  next_same id e older own same false none = shut_after id (made_by script bytes e) older ∙ ap (λ (b : Bool). b || is_shut id older) none ∙ same
+  next_same id e older own same b none = grind (arith, common_steps, shut_after)
 
   pub app_plain : (es : List Entry) → ArePlain (calls_of_app k script bytes es)
   app_plain [] = tt
@@ -121,17 +119,12 @@ or_case true b P is one two = one refl
 or_case false b P is one two = two is
 
 or_goes : (a b c d : Bool) → (a ≡ true → c ≡ true) → (b ≡ true → d ≡ true) → (a || b) ≡ true → (c || d) ≡ true
-or_goes true b c d one two is = ap (λ (x : Bool). x || d) (one refl)
-or_goes false b true d one two is = refl
-or_goes false b false d one two is = two is
+or_goes a b c d one two is = grind (arith, common_steps)
 
 -- Where no send, or no receive, on an id was over before a call shut the id, none was but behind one.
 module _ (id : ℕ) where
   not_over : (a b c d : Bool) → ((a && (b && not c)) || d) ≡ false → a ≡ true → b ≡ true → c ≡ true
-  not_over true true true d none one two = refl
-  not_over true true false d none one two = absurd cc
-  not_over true false c d none one two = absurd cc
-  not_over false b c d none one two = absurd cc
+  not_over a b c d none one two = grind (arith, common_steps)
 
   free_of : (of on : GuestCall → Bool) → ((c : GuestCall) → of c ≡ true → id_in c ≡ Some id → on c ≡ true) → (js : Journal) → ArePlain js
       → was_over on id js ≡ false → AreFree of id js
@@ -224,10 +217,7 @@ sent_enough id next ds (m ∷ older) tell =
     named false = omega arith
 
 got_so : (r : Received) → got_told (told_recv r) ≤ got_count r
-got_so (got.Got n) = omega arith
-got_so got.Empty = omega arith
-got_so got.NotOpen = omega arith
-got_so _ = omega arith
+got_so r = grind (arith, common_steps)
 
 none_got : (c : GuestCall) (reply : ReplyTo c) → (c ≡ c) → is_recv c ≡ false → got_told (told_by c reply) ≡ 0
 none_got c reply same is = grind (arith, common_steps)

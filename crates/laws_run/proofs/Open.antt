@@ -1,7 +1,7 @@
 -- At rest the device has a connection for each stream with a label that its proxy hasn't closed, and no other.
 use Rattle.std.proofs.lemmas.Grind.{common_steps}
 use Rattle.std.proofs.Common.{◌≡◌, ◌≢◌, ◌+◌, ◌-◌, ◌<◌, ◌==◌, ◌||◌, ◌&&◌, ℕ, zero, suc, Bool, true, false, cond, List, [], ◌∷◌, length, map, Option, Some, None, Contains, slice_get}
-use Rattle.std.proofs.{Common.{slice_index_or, refl, sym, ap, subst, ◌∙◌, arith, ◌≤◌, ◌++◌, append-nil}, lemmas.{Bool.{Decides.nat_tests, and_parts}, Option.get_or_from_slice_get}}
+use Rattle.std.proofs.{Common.{slice_index_or, refl, sym, ap, subst, ◌∙◌, arith, ◌≤◌, ◌++◌, append-nil}, lemmas.{Bool.{and_parts}, Option.get_or_from_slice_get}}
 use Rattle.std.proofs.lemmas.{Option.{same_Some, slice_get-get_or, slice_get_within}, List.Elements.{All-append, All-contains, All-head, All-map, All-tail}}
 use Rattle.std.proofs.lemmas.{List.{Folds.{Any-from_list_any, list_any-from_Any}, Kept.AllPairs-cons, length-map}, Map.Made.{IsDistinct-from_AllPairs, length-from_same_keys}}
 use Rattle.std.specs.{Bool.{Decides, one_answer}, Cmp.IsEquivalence, List.{All, AllByRecursion, AllPairs, IsDistinct, cons_option, filter_map, list_any}, Option.ForSome}
@@ -128,22 +128,13 @@ pub record HasStream (h : HostContents) (log : Log) (e : DeviceEntry) : Type 0 w
 module _ (h : HostContents) (log : Log) (port : Ports) (t : Table DeviceConnection) (hands : List Handshake) (streamed : IsStreamed h log port t hands)
     (table : IsTable t) where
   looked_at : (k : ℕ) (s : Stream) → slice_get h.streams k ≡ Some s → stream_at (k + 1) h ≡ Some s
-  looked_at k s at =
-      let some : (k + 1 == 0) ≡ false = grind (arith, nat_tests) in
-      let back : k + 1 - 1 ≡ k = omega arith in
-      ap (λ (b : Bool). cond b None (slice_get h.streams (k + 1 - 1))) some ∙ ap (λ (i : ℕ). slice_get h.streams i) back ∙ at
+  looked_at k s at = grind (arith, common_steps)
 
   label_of : (f : Flow) (s : Stream) → is_open_on f s ≡ true → s.label ≡ Some f
-  label_of f s is = by s.label (and_parts (is_open_in s.state) (option_map_or (same_flow f) s.label false) is).1
-    where
-      by : (o : Option Flow) → option_map_or (same_flow f) o false ≡ true → o ≡ Some f
-      by None so = absurd cc
-      by (Some g) so = ap (λ (x : Flow). let o : Option Flow = Some x in o) (sym (same_is f g so))
+  label_of f s is = grind (arith, common_steps, and_parts, same_is)
 
   still_open : (s : StreamState) → is_open_in s ≡ true → closes s ≡ false
-  still_open state.Waiting is = absurd cc
-  still_open state.Open is = refl
-  still_open state.Closed is = absurd cc
+  still_open s is = grind (arith, common_steps)
 
   -- The connection of an open stream.
   of_seen : (c : Connection) (id : ℕ) (s : Stream) → stream_at id h ≡ Some s → (seen h id s).label ≡ Some c → is_open_in s.state ≡ true → IsOf t log c id

@@ -1,5 +1,7 @@
 -- All connections that apps opened have the flows that the entries tell.
-use Rattle.std.proofs.{Common.{ℕ, ◌==◌, Bool, true, false, cond, List, [], ◌∷◌, Option, Some, None, Result, Ok, Err}, lemmas.List.Elements.{All-append, All-cons, All-nil}}
+use Rattle.std.proofs.lemmas.Grind.{common_steps}
+use Rattle.std.proofs.Common.{arith}
+use Rattle.std.proofs.{Common.{ℕ, ◌==◌, Bool, cond, List, [], ◌∷◌, Option, Some, None, Result, Ok, Err}, lemmas.List.Elements.{All-append, All-cons, All-nil}}
 use Rattle.std.specs.List.{All, flat_map, range_with_len}
 use Rattle.vs_flow.specs.{Connection.Connection, declared.flow.Flow.Flow}
 use Rattle.vs_driver_parts.specs.declared.answers.{Accepted.Accepted, ConnectError.ConnectError}
@@ -32,20 +34,14 @@ module _ (opened : ℕ → Connection) where
   connect_is (Err why) flow is = tt
 
   accept_is : (r : Accepted) (flow : Option Flow) → IsAccepted opened r flow → IsOfAny (opened_by_accept r flow)
-  accept_is (accepted.Conn id) flow is = as_is id flow is
-  accept_is accepted.None flow is = tt
-  accept_is accepted.NotListening flow is = tt
+  accept_is r flow is = grind (arith, common_steps, as_is)
 
   called_is : (c : Called) → TellsFlow opened c → IsOfAny (opened_in c)
-  called_is (called.Connect port answer flow) is = connect_is answer flow is
-  called_is (called.Accept port answer flow) is = accept_is answer flow is
-  called_is c is = tt
+  called_is c is = grind (arith, common_steps, connect_is, accept_is)
 
   by_is : (b : Bool) (d : Deed) → elim d as (λ _. Type 0) [ deed.Called c ↦ TellsFlow opened c | deed.Waited times why ↦ Unit {0} ]
       → IsOfAny (cond b (elim d as (λ _. Option Opened) [ deed.Called c ↦ opened_in c | deed.Waited times why ↦ None ]) None)
-  by_is true (deed.Called c) is = called_is c is
-  by_is true (deed.Waited times why) is = tt
-  by_is false d is = tt
+  by_is b d is = grind (arith, common_steps, called_is)
 
   listed_is : (o : Option Opened) → IsOfAny o → All IsOf (listed o)
   listed_is None is = All-nil IsOf

@@ -1,11 +1,10 @@
 -- A stage of writing that wrote nothing tried each stream to which something is to be written, and each gave Again.
 use Rattle.std.proofs.lemmas.Grind.{common_steps}
-use Rattle.std.proofs.Common.{◌≡◌, ◌≤◌, ◌==◌, ◌&&◌, ◌||◌, not, ◌⊎◌, inl, inr, ℕ, Bool, true, false, cond, List, [], ◌∷◌, ◌++◌, length, take, Option, Some, None, refl, sym, ap}
+use Rattle.std.proofs.Common.{◌≡◌, ◌≤◌, ◌==◌, ◌&&◌, ◌||◌, not, ◌⊎◌, inl, inr, ℕ, Bool, true, false, cond, List, [], ◌∷◌, length, Option, Some, None, refl, sym, ap}
 use Rattle.std.{proofs.{Common.{subst, ◌∙◌, arith}, lemmas.{Bool.{eqb-true}}}, specs.{Option.{option_map}}}
 use Rattle.vs_contents.specs.{CallTree.{Ask, Done, bind, for_each}}
-use Rattle.vs_conn.specs.End.{with_shut}
 use Rattle.vs_flow.specs.Table.{Table, entry_under, slots, with_value}
-use Rattle.vs_outside.specs.Host.{HostContents, IsWritten, after_close, after_failed, after_shut_write, after_write, called, fails_now}
+use Rattle.vs_outside.specs.Host.{HostContents, IsWritten, after_close, after_failed, after_shut_write, after_write}
 use Rattle.vs_outside.specs.{Host.{with_shut_write_call}, declared.host_net.StreamWrite.StreamWrite}
 use Rattle.vs_device_parts.specs.{Calls.{Allows, CloseStream, DeviceTree, HostMoves, ShutWrite, Situation, WriteStream}, Playing.Runs, Connections.{after_shut, after_written}}
 use Rattle.vs_device_parts.specs.{Connections.{cut_off, with_connection, with_fault}, Streams.{Writing, closing, is_written_out, pump_of, pump_slot, shut_write, to_write}}
@@ -82,20 +81,14 @@ own_none slot e v w x d at table none id writes =
     ∙ writes in cc)
 
 still_none : (slot : ℕ) (w : Writing) (c : Situation) → writes_under slot w.state.table ≡ None → Step (Pumps slot) w c w c
-still_none slot w c none = record {
-  rises = omega arith;
-  same = λ wrote. record { leaves = no_change slot w c; own = λ id at. absurd (let no : None ≡ Some id = sym none ∙ at in cc) };
-}
+still_none slot w c none = grind (arith, common_steps, no_change)
 
 -- What the answers to a write say.
 untold : (o : Option HostContents) → o ≡ None → (id : ℕ) → IsToldFull id o
 untold o none id = λ h there. absurd (let no : ◌≡◌ {A = Option HostContents} None (Some h) = sym none ∙ there in cc)
 
 untold_calm : (o q : Option HostContents) → q ≡ None → Calm o q
-untold_calm o q none = record {
-  dry = λ id is h there. absurd (let no : ◌≡◌ {A = Option HostContents} None (Some h) = sym none ∙ there in cc);
-  taken = λ id is h there. absurd (let no : ◌≡◌ {A = Option HostContents} None (Some h) = sym none ∙ there in cc);
-}
+untold_calm o q none = grind (arith, common_steps)
 
 took_none : (stream n : ℕ) (bytes : List ℕ) (c d : Situation)
     → HostMoves false (IsWritten stream (length bytes) (write.Took n)) (after_write stream bytes (write.Took n)) c d → n ≡ 0 → d.host ≡ None
@@ -106,25 +99,13 @@ told_full : (stream : ℕ) (bytes : List ℕ) (c d : Situation) → (length byte
 told_full stream bytes c d some moves = grind (arith, common_steps)
 
 full_failed : (i : ℕ) (h : HostContents) → IsFullAt i h → IsFullAt i (after_failed h)
-full_failed i h full = by (fails_now h)
-  where
-    by : (b : Bool) → IsFullAt i (cond b (called h) (record (called h) { starved = true }))
-    by true = full
-    by false = full
+full_failed i h full = grind (arith, common_steps)
 
 dry_failed : (i : ℕ) (h : HostContents) → IsDryAt i h → IsDryAt i (after_failed h)
-dry_failed i h dry = by (fails_now h)
-  where
-    by : (b : Bool) → IsDryAt i (cond b (called h) (record (called h) { starved = true }))
-    by true = dry
-    by false = dry
+dry_failed i h dry = grind (arith, common_steps)
 
 taken_failed : (i : ℕ) (h : HostContents) → IsTakenAt i h → IsTakenAt i (after_failed h)
-taken_failed i h taken = by (fails_now h)
-  where
-    by : (b : Bool) → IsTakenAt i (cond b (called h) (record (called h) { starved = true }))
-    by true = taken
-    by false = taken
+taken_failed i h taken = grind (arith, common_steps)
 
 and_none : (a : Bool) (stream : ℕ) → cond (a && false) (Some stream) None ≡ None
 and_none true stream = refl
@@ -140,12 +121,7 @@ its_stream false stream id is = absurd cc
 module _ (e : DeviceEntry) where
   -- All to be written is dropped where it receives no more.
   shut_none : (now : ℕ) → writes_of (record e { value = after_shut 1 now e.value }) ≡ None
-  shut_none now = by (with_shut e.value.end 1).own.receive (or_true e.value.end.own.receive _ refl)
-    where
-      by : (b : Bool) → b ≡ true
-          → cond (not e.value.closed && not (length (take 4096 (cond b [] e.value.ok_line ++ cond b [] e.value.pending)) == 0)) (Some e.value.stream) None ≡ None
-      by true is = and_none (not e.value.closed) e.value.stream
-      by false is = absurd cc
+  shut_none now = grind (arith, common_steps, or_true, and_none)
 
   answered : (a : StreamWrite) (w : Writing) (c d : Situation) → entry_under w.state.table e.slot ≡ Some e → (length (to_write e.value) == 0) ≡ false
       → Allows (WriteStream e.value.stream (to_write e.value)) a c d → Keeps allowed (λ x f. Step (Pumps e.slot) w c x f) (write_answered e a w) d

@@ -1,8 +1,9 @@
 -- A turn that did nothing read each line, and each gave Again; and no client waited, where a place was free and no fault was counted.
+use Rattle.std.proofs.lemmas.Grind.{common_steps}
 use Rattle.std.proofs.Common.{◌≡◌, ◌<◌, ◌⊎◌, inl, inr, ℕ, Bool, true, false, List, [], ◌∷◌, length, get_or, Option, Some, None, refl, sym, ap, subst, ◌∙◌, arith}
 use Rattle.std.{proofs.lemmas.List.Elements.Contains-get_or}
 use Rattle.vs_header.specs.declared.Header.{Header}
-use Rattle.vs_outside.specs.Host.{HostContents, accept_failed, read_failed, write_failed}
+use Rattle.vs_outside.specs.Host.{HostContents}
 use Rattle.vs_ring_port.specs.declared.{device_ring.{Chain.Chain, Next.Next}}
 use Rattle.vs_limits.specs.declared.TheConstants.{HANDSHAKES}
 use Rattle.vs_device_parts.specs.{Calls.Situation, Playing.Runs, Receiving.written, State.DeviceState}
@@ -27,14 +28,10 @@ module _ (first : ℕ) where
   kept false n at none = at none
 
   rx_page : (a : Next) (n : Fields) (d : Situation) → P None n d → P None (after_rx a n) d
-  rx_page (next.Chain chain) n d at = at
-  rx_page next.None n d at = at
-  rx_page (next.Failed f) n d at = at
+  rx_page a n d at = grind (arith, common_steps)
 
   event_page : (a : Next) (n : Fields) (d : Situation) → P None n d → AfterEventPage allowed P a n d
-  event_page (next.Chain chain) n d at = λ b e wrote x f gave. at
-  event_page next.None n d at = at
-  event_page (next.Failed f) n d at = at
+  event_page a n d at = grind (arith, common_steps)
 
   puts_packet : (chain : Chain) (h : Header) (payload : List ℕ) (n : Fields) (c : Situation) → P None n c
       → Keeps allowed (λ x d. P None (record n { chain = None }) d) (written chain h payload) c
@@ -42,17 +39,7 @@ module _ (first : ℕ) where
   puts_packet chain h (x ∷ payload) n c at = λ a d one b e two y f three. at
 
   calls : Calls allowed P
-  calls = record {
-    closes = λ page stream n c at a d made. at;
-    shuts = λ stream n c at a d made. at;
-    labels = λ stream flow n c at a d made. at;
-    accepts = λ n c at a d made. kept (accept_failed a) n at;
-    reads = λ stream room n c at a d made. kept (read_failed a.0) n at;
-    writes = λ stream bytes n c at a d made. kept (write_failed a) n at;
-    takes_rx = λ n c at none a d made. rx_page a n d at;
-    event = λ n c at owed a d made. event_page a n d at;
-    puts = λ chain h payload n c at is. puts_packet chain h payload n c at;
-  }
+  calls = grind (arith, common_steps, kept, rx_page, event_page, puts_packet)
 
   abbrev Of : Turning → Situation → Type 0
   Of = Turns allowed (Between (walk.D allowed P))

@@ -1,17 +1,16 @@
 -- A stage of handshakes that did nothing read each line, and each gave Again; and it accepted none, since none waited or all places are taken.
 use Rattle.std.proofs.lemmas.Grind.{common_steps}
 use Rattle.std.proofs.Common.{◌≡◌, ◌≤◌, ◌<◌, ◌+◌, ◌-◌, ◌^◌, ◌==◌, min, nat_lt, ◌⊎◌, inl, inr, ℕ, zero, suc, Bool, true, false, cond, List, [], ◌∷◌, ◌++◌, length, map, take, slice_get, Contains, Option}
-use Rattle.std.{proofs.{Common.{Some, None, Ok, Err, refl, sym, ap, subst, ◌∙◌, arith, option_and_then, position}, lemmas.{Bool.{eq-eqb, Decides.nat_tests}, Option.{get_or_from_slice_get, same_Some, slice_get_within}}}}
+use Rattle.std.{proofs.{Common.{Some, None, refl, sym, ap, subst, ◌∙◌, arith}, lemmas.{Bool.{eq-eqb, Decides.nat_tests}, Option.{get_or_from_slice_get, same_Some, slice_get_within}}}}
 use Rattle.std.specs.{List.{All, find}, Option.{option_map, option_map_or}}
 use Rattle.vs_contents.specs.{CallTree.{Ask, Done, bind, for_each, while_up_to}, Contents.Exposes}
-use Rattle.vs_flow.{specs.{Table.refusal, declared.{flow.Flow.Flow}}, proofs.Entries.{find_position, none_found}}
+use Rattle.vs_flow.{specs.{declared.{flow.Flow.Flow}}, proofs.Entries.{find_position, none_found}}
 use Rattle.vs_limits.specs.declared.TheConstants.{HANDSHAKES}
-use Rattle.vs_outside.specs.{Host.{HostContents, Stream, accept_answer, after_accept, after_close, after_label, after_read, called, fails_now, is_waiting, next_bytes, stream_at}}
+use Rattle.vs_outside.specs.{Host.{HostContents, Stream, accept_answer, after_accept, after_close, after_read, is_waiting}}
 use Rattle.vs_outside.specs.declared.host_net.{Accepted.Accepted, StreamRead.StreamRead}
 use Rattle.vs_uds.specs.{ConnectLine.connect_step, declared.{scan.Step.Step as LineStep}}
-use Rattle.vs_device_parts.specs.{Calls.{Accept, Allows, DeviceTree, HostMoves, IsReadOf, Label, ReadStream, Situation}, Connections.with_client, Playing.Runs}
-use Rattle.vs_device_parts.specs.Turns.{open_of}
-use Rattle.vs_proxy_parts.specs.Handshakes.{accept_answered, accept_one, byte_read, dropping, handshake_on, host_fault, line_decided, next_flow, opening, read_byte, read_line, shake_hands, streams_of, with_line}
+use Rattle.vs_device_parts.specs.{Calls.{Accept, Allows, DeviceTree, HostMoves, IsReadOf, ReadStream, Situation}, Playing.Runs}
+use Rattle.vs_proxy_parts.specs.Handshakes.{accept_answered, accept_one, byte_read, dropping, handshake_on, host_fault, line_decided, opening, read_byte, read_line, shake_hands, streams_of, with_line}
 use Rattle.vs_proxy_parts.specs.State.{Handshake, Turning}
 use Rattle.laws_device.{specs.Carried.Streamed.HasHand, proofs.{Carried.Opens.one_byte, Walk.Keeping.{Keeps, keeps_if, keeps_some, keeps_then, keeps_weaker}}}
 use Rattle.laws_run.{specs.Dry.{IsTakenAt, IsToldDry, IsToldTaken}, proofs.Drying.{Calm, allowed, calm_both, calm_read, calm_same, keeps_run, told_again}}
@@ -30,26 +29,10 @@ record Step (N : Relation) (t : Turning) (c : Situation) (x : Turning) (d : Situ
 
 step_then : (N M K : Relation) (t : Turning) (c : Situation) (v : Turning) (d : Situation) (x : Turning) (e : Situation)
     → (N t c v d → M v d x e → K t c x e) → Step N t c v d → Step M v d x e → Step K t c x e
-step_then N M K t c v d x e gives a b =
-    let first = a.rises in
-    let second = b.rises in
-    record {
-      rises = omega (arith, first, second);
-      none = λ is. b.none (a.none is);
-      same = λ counts. by (a.same (omega (arith, first, second, counts))) (b.same (omega (arith, first, second, counts)));
-    }
-  where
-    by : (d.host ≡ None) ⊎ N t c v d → (e.host ≡ None) ⊎ M v d x e → (e.host ≡ None) ⊎ K t c x e
-    by (inl none) rest = inl (b.none none)
-    by (inr one) (inl none) = inl none
-    by (inr one) (inr two) = inr (gives one two)
+step_then N M K t c v d x e gives a b = grind (arith, common_steps)
 
 step_weaker : (N M : Relation) (t : Turning) (c : Situation) (x : Turning) (d : Situation) → (N t c x d → M t c x d) → Step N t c x d → Step M t c x d
-step_weaker N M t c x d gives a = record { rises = a.rises; none = a.none; same = λ counts. by (a.same counts) }
-  where
-    by : (d.host ≡ None) ⊎ N t c x d → (d.host ≡ None) ⊎ M t c x d
-    by (inl none) = inl none
-    by (inr one) = inr (gives one)
+step_weaker N M t c x d gives a = grind (arith, common_steps)
 
 more : (N : Relation) (t : Turning) (c : Situation) (x : Turning) (d : Situation) → t.hands + t.read < x.hands + x.read → (c.host ≡ None → d.host ≡ None)
     → Step N t c x d
@@ -65,11 +48,7 @@ record Still (t : Turning) (c : Situation) (x : Turning) (d : Situation) : Type 
   calm : Calm c.host d.host
 
 still_here : (t : Turning) (c : Situation) → Step Still t c t c
-still_here t c = record {
-  rises = omega arith;
-  none = λ is. is;
-  same = λ counts. inr (record { state = refl; calm = calm_same c.host c.host refl });
-}
+still_here t c = grind (arith, common_steps, calm_same)
 
 still_then : (t : Turning) (c : Situation) (v : Turning) (d : Situation) (x : Turning) (e : Situation) → Still t c v d → Still v d x e → Still t c x e
 still_then t c v d x e a b = record { state = b.state ∙ a.state; calm = calm_both c.host d.host e.host a.calm b.calm }
@@ -82,10 +61,7 @@ module _ (stream : ℕ) where
     dry : HasHand x.state.handshakes stream → IsToldDry stream d.host
 
   no_hand : (hands : List Handshake) → find (λ (h : Handshake). h.stream == stream) hands ≡ None → HasHand hands stream → ⊥
-  no_hand hands none (h, (i, less, is), same) =
-      let fails : (h.stream == stream) ≡ false = ap (λ (k : Handshake). k.stream == stream) (sym is)
-      ∙ none_found (λ (k : Handshake). k.stream == stream) hands none i h less in
-      let both : true ≡ false = sym (eq-eqb h.stream stream same) ∙ fails in absurd cc
+  no_hand hands none has = grind (arith, common_steps, none_found, eq-eqb)
 
   zero_bytes : (o : Option Stream) → option_map_or (λ (s : Stream). take 0 s.untaken) o [] ≡ []
   zero_bytes None = refl
@@ -94,14 +70,7 @@ module _ (stream : ℕ) where
   -- Where a byte is told, it is one.
   got_none : (n : ℕ) (bytes : List ℕ) (c d : Situation) → HostMoves false (IsReadOf stream 1 (read.Got n, bytes)) (after_read stream (read.Got n)) c d
       → n ≡ 0 → d.host ≡ None
-  got_none n bytes c d moves none = by c.host d.host moves.host
-    where
-      by : (o q : Option HostContents) → Exposes o q (IsReadOf stream 1 (read.Got n, bytes)) (after_read stream (read.Got n)) → q ≡ None
-      by None q exposes = exposes
-      by (Some h) q exposes =
-          let one = one_byte stream n h (sym exposes.0.0) in
-          let nothing : next_bytes stream n h ≡ [] = ap (λ (k : ℕ). next_bytes stream k h) none ∙ zero_bytes (stream_at stream h) in
-          let both : one.0 ∷ [] ≡ [] = sym one.1 ∙ nothing in absurd cc
+  got_none n bytes c d moves none = grind (arith, common_steps, one_byte, zero_bytes)
 
   -- What a byte more leads to.
   abbrev Follows : Turning → Situation → Turning → Situation → Type 0
@@ -111,23 +80,10 @@ module _ (stream : ℕ) where
   drop_follows id u d = λ a e made. (omega arith, none_moves false (λ h. Unit {0}) (after_close id) d e made)
 
   open_follows : (id : ℕ) (flow : Flow) (u : Turning) (d : Situation) → Keeps allowed (λ x e. Follows u d x e) (opening id flow u) d
-  open_follows id flow u d =
-      keeps_then allowed (λ x e. Follows u d x e) (λ r e. d.host ≡ None → e.host ≡ None) (open_of flow id u.state.device) _ d
-      (keeps_some allowed (λ r e. d.host ≡ None → e.host ≡ None) (refusal u.state.device.table flow)
-      (Ask (Label id flow) (λ a. Done (with_client flow id u.state.device, Ok u.state.device.table.given)))
-      (λ fault. Done (u.state.device, Err fault)) d (λ none a e made. none_moves false (λ h. Unit {0}) (after_label id flow) d e made) (λ fault is none. none))
-      (λ r e kept. (omega arith, kept))
+  open_follows id flow u d = grind (arith, common_steps, keeps_then, allowed, keeps_some, none_moves)
 
   line_follows : (id : ℕ) (w : LineStep) (u : Turning) (d : Situation) → Keeps allowed (λ (r : Turning × Bool) e. Follows u d r.0 e) (line_decided id w u) d
-  line_follows id step.More u d = (omega arith, λ none. none)
-  line_follows id step.Bad u d =
-      keeps_then allowed (λ (r : Turning × Bool) e. Follows u d r.0 e) (λ x e. Follows u d x e) (dropping id u) (λ v. Done (v, false)) d
-      (drop_follows id u d) (λ v e kept. kept)
-  line_follows id (step.Port port) u d =
-      keeps_then allowed (λ (r : Turning × Bool) e. Follows u d r.0 e) (λ x e. Follows u d x e)
-      (elim (next_flow port u.state.next_port u.state.device) [ None ↦ dropping id u | Some flow ↦ opening id flow u ]) (λ v. Done (v, false)) d
-      (keeps_some allowed (λ x e. Follows u d x e) (next_flow port u.state.next_port u.state.device) (dropping id u) (λ flow. opening id flow u) d
-      (λ none. drop_follows id u d) (λ flow given. open_follows id flow u d)) (λ v e kept. kept)
+  line_follows id w u d = grind (arith, common_steps, keeps_then, allowed, drop_follows, keeps_some, open_follows)
 
   module _ (t : Turning) (c : Situation) where
     abbrev Now : Turning × Bool → Situation → Type 0
@@ -240,9 +196,7 @@ record Accepts (t : Turning) (c : Situation) (x : Turning) (d : Situation) : Typ
 
 none_placed : (b : Bool) (o : Option ℕ) → accepted.None ≡ cond b accepted.Failed (option_map_or accepted.Stream (option_map (λ (place : ℕ). place + 1) o) accepted.None)
     → o ≡ None
-none_placed true o is = absurd cc
-none_placed false None is = refl
-none_placed false (Some place) is = absurd cc
+none_placed b o is = grind (arith, common_steps)
 
 all_under : (xs : List Stream) → All (λ (s : Stream). is_waiting s ≡ false) xs → (b : Bool) (i : ℕ) (s : Stream) → cond b None (slice_get xs i) ≡ Some s
     → is_waiting s ≡ false
@@ -251,17 +205,10 @@ all_under xs all false i s at =
     ap is_waiting (sym (get_or_from_slice_get xs i s s at)) ∙ all i s (slice_get_within xs i s at)
 
 none_waiting : (h : HostContents) → accepted.None ≡ accept_answer h → (id : ℕ) → IsTakenAt id h
-none_waiting h answer id s there =
-    let none = none_placed (fails_now h) (position is_waiting h.streams) answer in
-    let missing : find is_waiting h.streams ≡ None = sym (find_position is_waiting h.streams) ∙ ap (λ (o : Option ℕ). option_and_then (slice_get h.streams) o) none in
-    all_under h.streams (none_found is_waiting h.streams missing) (id == 0) (id - 1) s there
+none_waiting h answer id s there = grind (arith, common_steps, none_placed, find_position, all_under, none_found)
 
 told_none : (c d : Situation) → HostMoves false (λ h. accepted.None ≡ accept_answer h) (after_accept accepted.None) c d → (id : ℕ) → IsToldTaken id d.host
-told_none c d moves id = by c.host d.host moves.host
-  where
-    by : (o q : Option HostContents) → Exposes o q (λ h. accepted.None ≡ accept_answer h) (after_accept accepted.None) → IsToldTaken id q
-    by None q exposes g there = absurd (let no : ◌≡◌ {A = Option HostContents} None (Some g) = sym exposes ∙ there in cc)
-    by (Some h) q exposes g there = subst (IsTakenAt id) (same_Some (called h) g (sym exposes.1 ∙ there)) (none_waiting h exposes.0 id)
+told_none c d moves id = grind (arith, common_steps, same_Some, none_waiting)
 
 pub some_fault : (n : ℕ) → min (n + 1) (2 ^ 64 - 1) ≡ 0 → ⊥
 some_fault n is = grind (arith, nat_tests, common_steps, is)

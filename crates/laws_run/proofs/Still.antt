@@ -1,18 +1,16 @@
 -- A poll that moved nothing leaves the driver as it was, but for its pages in flight.
-use Rattle.std.proofs.Common.{◌≡◌, ◌≤◌, ◌<◌, ◌+◌, ◌==◌, ◌||◌, ℕ, zero, suc, nat_le, nat_lt, Bool, true, false, cond, List, [], ◌∷◌, length, Option, Some, None, refl, ap, ◌∙◌}
+use Rattle.std.proofs.Common.{◌≡◌, ◌≤◌, ◌<◌, ◌+◌, ◌==◌, ◌||◌, ℕ, zero, suc, nat_lt, Bool, true, false, cond, List, [], ◌∷◌, length, Option, Some, None, refl, ◌∙◌}
 use Rattle.std.proofs.{Common.arith, lemmas.{Bool.Decides.nat_tests, Grind.common_steps}}
 use Rattle.vs_contents.{specs.CallTree.{Ask, Done, bind, for_each, while_up_to}, proofs.Leads.{AllEnds, end_of, ends_weaker}}
-use Rattle.vs_conn.specs.{End.owes_of, declared.end.Owed.Owed}
-use Rattle.vs_flow.specs.Table.{entry_under, slots}
-use Rattle.vs_header.specs.Packet.{header_bytes}
-use Rattle.vs_limits.specs.declared.TheConstants.{DRIVER_REPLIES_FULL, OWED_MAX, STAGED_MAX}
+use Rattle.vs_flow.specs.Table.{slots}
+use Rattle.vs_limits.specs.declared.TheConstants.{OWED_MAX, STAGED_MAX}
 use Rattle.vs_replies.specs.declared.Reply.{Reply}
-use Rattle.vs_ring_port.specs.{Contents.RingContents, DriverCalls.{LoadCid, Reap}, declared.queue.Queue.{Queue, TheVariants.{Event, Rx, Tx}}}
-use Rattle.vs_driver_parts.specs.Conversations.{DriverTree, Round, after_paying, all_taken, event_reaped, event_taken, goes_on_with, has_page, one_put, owed_bytes, packet_reaped}
+use Rattle.vs_ring_port.specs.{Contents.RingContents, DriverCalls.{LoadCid}, declared.queue.Queue.{Queue, TheVariants.{Event, Rx, Tx}}}
+use Rattle.vs_driver_parts.specs.Conversations.{DriverTree, Round, all_taken, event_reaped, goes_on_with, one_put, packet_reaped}
 use Rattle.vs_driver_parts.specs.Conversations.{pay_all, pay_and_publish, pay_slot, poll_of, poll_packets, poll_puts, poll_reaps, polled, publish_and_pay, published, put_all}
-use Rattle.vs_driver_parts.specs.Conversations.{put_owed, put_owed_of, put_replies, put_reply, put_reply_of, reap_all, reap_one, reply_header, stage_of, stage_packet}
-use Rattle.vs_driver_parts.specs.{Conversations.{staged_again, start, take_all, take_event, take_packet}, Playing.{Plays, RingAllows}, Receiving.{after_reset, is_reset_event}}
-use Rattle.vs_driver_parts.specs.{Receiving.on_page, State.{DriverEntry, DriverState}, declared.answers.Polled.Polled}
+use Rattle.vs_driver_parts.specs.Conversations.{put_owed, put_replies, put_reply, put_reply_of, reap_all, reap_one, stage_of}
+use Rattle.vs_driver_parts.specs.{Conversations.{staged_again, start, take_all, take_event, take_packet}, Playing.{Plays, RingAllows}, Receiving.{after_reset}}
+use Rattle.vs_driver_parts.specs.{Receiving.on_page, State.{DriverState}, declared.answers.Polled.Polled}
 use Rattle.laws_apps.specs.Runs.{poll_moved}
 use Rattle.laws_rest.proofs.Quiet.{ends_any, ends_then}
 
@@ -34,9 +32,7 @@ abbrev pub HasRoom : DriverState → Type 0
 HasRoom s = s.in_flight < s.size
 
 pub room_stays : (s t : DriverState) → SameCore s t → HasRoom s → HasRoom t
-room_stays s t same room =
-    let size : t.size ≡ s.size = ap (λ (x : DriverState). x.size) same.0 in
-    let less = same.1 in omega (arith, size, less, room)
+room_stays s t same room = grind (arith, common_steps)
 
 same_if : (b : Bool) (p q : DriverTree DriverState) (P : DriverState → Type 0) → AllEnds P p → AllEnds P q → AllEnds P (cond b p q)
 same_if true p q P one other = one
@@ -112,23 +108,13 @@ event_by r false = λ at. (at, core_same r.state)
 
 again : (Q : Round → Type 0) (queue : Queue) (r : Round) → ((s : DriverState) → Q (record r { state = s }) → Q r)
     → AllEnds (λ (x : Round × Bool). Kept Q r x.0) (staged_again queue r)
-again Q queue r back =
-    ends_then (λ (x : Round × Bool). Kept Q r x.0) (SameCore r.state) (stage_of queue [] r.state) (goes_on_with r) (stages queue [] r.state)
-    (λ s same at. (back s at, same))
+again Q queue r back = grind (arith, common_steps, ends_then, stages)
 
 event_back : (r : Round) (page : Option (List ℕ)) → AllEnds (λ (x : Round × Bool). Kept NoReset r x.0) (event_reaped r page)
-event_back r None = kept NoReset r
-event_back r (Some page) =
-    ends_then (λ (x : Round × Bool). Kept NoReset r x.0) (Kept NoReset r) (event_taken page r) (staged_again Event) (event_by r (is_reset_event page))
-    (λ q a. ends_weaker (λ (x : Round × Bool). Kept NoReset q x.0) (λ (x : Round × Bool). Kept NoReset r x.0)
-    (λ x b. kept_then NoReset r q x.0 a b) (staged_again Event q) (again NoReset Event q (λ s at. at)))
+event_back r page = grind (arith, common_steps, kept, ends_then, event_by, ends_weaker, kept_then, again)
 
 takes_event : (r : Round) → AllEnds (λ (x : Round × Bool). Kept NoReset r x.0) (take_event r)
-takes_event r = by (nat_lt DRIVER_REPLIES_FULL (length r.state.replies))
-  where
-    by : (b : Bool) → EndsIn (λ (x : Round × Bool). Kept NoReset r x.0) (cond b (Done (r, false)) (Ask (Reap Event) (event_reaped r)))
-    by true = kept NoReset r
-    by false = λ page. event_back r page
+takes_event r = grind (arith, common_steps, kept, event_back)
 
 -- All else that is taken or put is counted: a round is quiet where that is none.
 abbrev CountsNone : Round → Type 0
@@ -145,11 +131,7 @@ packet_back r (Some page) =
     (λ s same. no_more r (record q { state = s }) refl)
 
 takes_packet : (r : Round) → AllEnds (λ (x : Round × Bool). Kept CountsNone r x.0) (take_packet r)
-takes_packet r = by (nat_le DRIVER_REPLIES_FULL (length r.state.replies))
-  where
-    by : (b : Bool) → EndsIn (λ (x : Round × Bool). Kept CountsNone r x.0) (cond b (Done (r, false)) (Ask (Reap Rx) (packet_reaped r)))
-    by true = kept CountsNone r
-    by false = λ page. packet_back r page
+takes_packet r = grind (arith, common_steps, kept, packet_back)
 
 puts_if : (r : Round) (p : DriverTree DriverState) (b : Bool)
     → AllEnds (λ (x : Round × Bool). Kept CountsNone r x.0) (cond b (bind p (one_put r)) (Done (r, false)))
@@ -159,24 +141,10 @@ puts_if r p true =
 puts_if r p false = kept CountsNone r
 
 puts_reply : (rs : List Reply) (r : Round) → AllEnds (λ (x : Round × Bool). Kept CountsNone r x.0) (put_reply_of rs r)
-puts_reply [] r = kept CountsNone r
-puts_reply (reply ∷ rs) r =
-    puts_if r (stage_packet (header_bytes (reply_header r.state.cid reply)) (record r.state { replies = rs })) (has_page r.state)
+puts_reply rs r = grind (arith, common_steps, kept, puts_if)
 
 puts_owed : (slot : ℕ) (r : Round) → AllEnds (λ (x : Round × Bool). Kept CountsNone r x.0) (put_owed slot r)
-puts_owed slot r = by (entry_under r.state.table slot)
-  where
-    owing : (e : DriverEntry) (o : Option Owed) → EndsIn (λ (x : Round × Bool). Kept CountsNone r x.0)
-        (elim o as (λ _. DriverTree (Round × Bool)) [ None ↦ Done (r, false) | Some what ↦ put_owed_of what e r ])
-    owing e None = kept CountsNone r
-    owing e (Some what) = puts_if r (stage_packet (owed_bytes what e r.state) (after_paying what e r.state)) (has_page r.state)
-
-    by : (o : Option DriverEntry) → EndsIn (λ (x : Round × Bool). Kept CountsNone r x.0) (elim o as (λ _. DriverTree (Round × Bool)) [
-      | None ↦ Done (r, false)
-      | Some e ↦ elim (owes_of e.value.end) [ None ↦ Done (r, false) | Some what ↦ put_owed_of what e r ]
-    ])
-    by None = kept CountsNone r
-    by (Some e) = owing e (owes_of e.value.end)
+puts_owed slot r = grind (arith, common_steps, kept, puts_if)
 
 publishes : (Q : Round → Type 0) (queue : Queue) (r q : Round) → Kept Q r q → ((s : DriverState) → Q (record q { state = s }) → Q q)
     → AllEnds (Kept Q r) (published queue q)

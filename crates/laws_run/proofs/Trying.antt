@@ -4,7 +4,7 @@ use Rattle.std.proofs.Common.{◌≡◌, ◌+◌, ◌≤◌, ◌==◌, ◌||◌,
 use Rattle.std.proofs.{Common.{ap, subst, ◌∙◌, arith, slice_get, take}, lemmas.Bool.eqb-true}
 use Rattle.vs_script.specs.App.{Accept, Act, Connect}
 use Rattle.laws_driver.specs.Carried.Calls.{GuestCall, Journal, Made}
-use Rattle.vs_apps_parts.specs.{Journals.{calls_of_app, made_by, made_of}, Scripts.{Follows, RunScript, all_counted, all_noted, begun, calls_in, calls_next, goes_to, id_of}}
+use Rattle.vs_apps_parts.specs.{Journals.{calls_of_app, made_by, made_of}, Scripts.{Follows, RunScript, all_counted, all_noted, begun, calls_in, calls_next, goes_to}}
 use Rattle.vs_apps_parts.specs.{Scripts.{is_complete, on_to_next, told_in, with_noted}, Told.{is_any_end, step_wait, told_of, wait_of}, declared.journal.{Called.Called, Deed.Deed}}
 use Rattle.vs_apps_parts.specs.declared.{journal.{Entry.Entry, WaitsFor.WaitsFor}, progress.Progress.Progress, told.Told.Told}
 use Rattle.laws_apps.specs.Placed.{AreOwned, NamesFlow, NamesOne}
@@ -68,17 +68,7 @@ module _ (acts : List Act) where
   -- A step that doesn't wait.
   gains : (act : Act) (ms : List Made) (p : Progress) (journal : Journal) → slice_get acts p.at ≡ Some act → calls_in ms ≡ calls_next act p
       → step_wait (told_in ms) ≡ None → Has p journal → total opens (take p.at acts) + opens act ≤ tried (with_noted ms journal)
-  gains (Connect port) ms p journal at calls goes has = by p.asked refl
-    where
-      by : (b : Bool) → p.asked ≡ b → total opens (take p.at acts) + 1 ≤ tried (with_noted ms journal)
-      by true is =
-          let one : pending acts p ≡ 1 = ap (λ (b : Bool). cond b (asks (slice_get acts p.at)) 0) is ∙ ap (λ (o : Option Act). asks o) at in
-          let more = tried_more ms journal in omega (arith, one, more, has)
-      by false is =
-          let first : calls_in ms ≡ call.Connect port ∷ [] = calls ∙ ap (λ (b : Bool). cond b (call.LookAt (id_of p)) (call.Connect port) ∷ []) is in
-          let more = one_tried (call.Connect port) refl ms journal first goes in omega (arith, more, has)
-  gains (Accept port) ms p journal at calls goes has = let more = one_tried (call.Accept port) refl ms journal calls goes in omega (arith, more, has)
-  gains _ ms p journal at calls goes has = let more = tried_more ms journal in omega (arith, more, has)
+  gains act ms p journal at calls goes has = grind (arith, common_steps, tried_more, one_tried)
 
   pending_least : (p : Progress) (act : Act) → slice_get acts p.at ≡ Some act → pending acts p ≤ opens act
   pending_least p act at = grind (arith, common_steps)

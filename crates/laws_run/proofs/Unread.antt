@@ -1,7 +1,7 @@
 -- What of a connection's payload its host's program has still to read, where the device holds many bytes of it.
 use Rattle.std.proofs.lemmas.Grind.{common_steps}
 use Rattle.std.proofs.Common.{◌≡◌, ◌⊎◌, inl, inr, ℕ, ◌+◌, ◌-◌, ◌≤◌, ◌<◌, ◌%◌, ◌^◌, not, Bool, true, false, cond, List, [], ◌∷◌, ◌++◌, length, Contains, Ok}
-use Rattle.std.proofs.{Common.{Option, codes, decimal, refl, sym, ap, subst, ◌∙◌, arith, length-append}, lemmas.List.Elements.All-contains}
+use Rattle.std.proofs.{Common.{Option, codes, decimal, refl, sym, ap, subst, ◌∙◌, arith}, lemmas.List.Elements.All-contains}
 use Rattle.vs_credit.specs.Credit.{free_of, unread_of}
 use Rattle.vs_conn.specs.{End.{ConnectionEnd, may_send_of}, Follows.{Follows, IsLeftBy}, Shut.is_both, declared.end.State.{State, TheVariants.Live}}
 use Rattle.vs_flow.specs.{Connection.Connection, Flow.host_asks, Table.Table, declared.flow.Flow.Flow}
@@ -59,10 +59,7 @@ abbrev Within : List ℕ → List ℕ → List ℕ → Type 0
 Within read pending got = (length read ≡ 0) ⊎ (length read + length pending ≤ length got)
 
 split_len : (a b c d : List ℕ) → a ++ (b ++ c) ≡ d → length a + length c ≤ length d
-split_len a b c d is =
-    let all = ap (λ (bs : List ℕ). length bs) is in
-    let first = length-append a (b ++ c) in
-    let rest = length-append b c in omega (arith, all, first, rest)
+split_len a b c d is = grind (arith, common_steps)
 
 read_within : (b : Bool) (port : ℕ) (given line pending got : List ℕ)
     → given ++ (line ++ pending) ≡ cond b (ok_text port) [] ++ got → Within (cond b (after_line given) given) pending got
@@ -101,9 +98,4 @@ module _ (h : HostContents) (log : Log) (port : Ports) (t : Table DeviceConnecti
   -- Many are pending: so many the host's program has still to read.
   pub to_read : (most : ℕ) → most ≤ length y.value.pending → most ≤ length (payload_got Device its log)
       → most + length (host_read its h) ≤ length (payload_got Device its log)
-  to_read most many all = by read_less
-    where
-      by : Within (host_read its h) y.value.pending (payload_got Device its log)
-          → most + length (host_read its h) ≤ length (payload_got Device its log)
-      by (inl none) = omega (arith, none, all)
-      by (inr less) = omega (arith, less, many)
+  to_read most many all = grind (arith, common_steps, read_less)

@@ -1,11 +1,13 @@
 -- What of both ends' bytes holds at rest: all payload arrived, and the host's streams took and gave it.
-use Rattle.std.proofs.Common.{◌≡◌, ℕ, ◌≤◌, true, false, Bool, List, [], ◌∷◌, Some, refl, sym, ap, ◌∙◌}
-use Rattle.vs_flow.specs.{Connection.Connection, Flow.host_asks, declared.flow.Flow.Flow}
+use Rattle.std.proofs.lemmas.Grind.{common_steps}
+use Rattle.std.proofs.Common.{arith}
+use Rattle.std.proofs.Common.{◌≡◌, ℕ, ◌≤◌, true, false, Bool, [], ◌∷◌, Some, refl, sym, ap, ◌∙◌}
+use Rattle.vs_flow.specs.{Connection.Connection, declared.flow.Flow.Flow}
 use Rattle.vs_limits.specs.declared.TheConstants.{FIRST_CID}
-use Rattle.laws_history.specs.{Again.count, Packets.is_request, declared.packet.Packet.Packet, History.{Answerer, Asker, Side, gots, peer, puts}}
+use Rattle.laws_history.specs.{History.{gots, puts}}
 use Rattle.vs_outside.specs.{Host.HostContents, HostBytes.host_wrote}
-use Rattle.vs_page.specs.{Fair.{asked_by, current, instance_from, number_of, payload_got, payload_of, payload_put}, Log.{Device, Driver, Log, Role, flow_got, other_role}}
-use Rattle.vs_page.specs.{Log.{packets_got, packets_put, side_of, whole_of}, declared.log.LogEntry.TheVariants.{GotEvent, GotPacket, Mark, PutEvent, PutPacket}}
+use Rattle.vs_page.specs.{Fair.{current, number_of, payload_got, payload_put}, Log.{Device, Driver, Log, Role, flow_got, other_role}}
+use Rattle.vs_page.specs.{Log.{packets_got, packets_put, whole_of}, declared.log.LogEntry.TheVariants.{GotEvent, GotPacket, Mark, PutEvent, PutPacket}}
 use Rattle.vs_page.proofs.{Entries.got_on, Flows.{opposite_by, same_self}}
 use Rattle.vs_driver_parts.specs.State.{DriverState}
 use Rattle.vs_device_parts.specs.Playing.{situation}
@@ -22,20 +24,11 @@ module _ (role : Role) (mine other : Log) (all : packets_put other ≡ packets_g
   there f = got_on role f mine other [] all
 
   pub same_payload : (c : Connection) → payload_put (other_role role) c other ≡ payload_got role c mine
-  same_payload c =
-      ap (λ (side : Side). payload_of (instance_from side c.number (puts (whole_of (other_role role) c.flow other)))) (opposite_by role (host_asks c.flow))
-      ∙ ap (λ (ps : List Packet). payload_of (instance_from (peer (side_of role c.flow)) c.number ps)) (there c.flow)
+  same_payload c = grind (arith, common_steps, opposite_by, there)
 
 same_number : (driver device : Log) (f : Flow) → packets_put driver ≡ packets_got device → packets_put device ≡ packets_got driver
     → number_of Driver f driver ≡ number_of Device f device
-same_number driver device f to_device to_driver =
-    ap (λ (side : Side). asked_by side (puts (whole_of Driver f driver)) (gots (whole_of Driver f driver))) (opposite_by Device (host_asks f))
-    ∙ by (side_of Device f)
-  where
-    by : (side : Side) → asked_by (peer side) (puts (whole_of Driver f driver)) (gots (whole_of Driver f driver))
-        ≡ asked_by side (puts (whole_of Device f device)) (gots (whole_of Device f device))
-    by Asker = ap (λ (ps : List Packet). count is_request ps) (sym (there Driver driver device to_driver f))
-    by Answerer = ap (λ (ps : List Packet). count is_request ps) (there Device device driver to_device f)
+same_number driver device f to_device to_driver = grind (arith, common_steps, opposite_by, there)
 
 -- A device that dropped no packet dropped no payload.
 all_heard : (first : ℕ) (log : Log) → ((f : Flow) → AreKept Device first f log) → AreHeard first log
