@@ -1,9 +1,9 @@
 -- Calls and polls keep what a journal's calls were given, against the driver's next id and its listeners.
 use Rattle.std.proofs.Common.{◌≡◌, ◌⊎◌, inl, inr, ℕ, ◌+◌, ◌<◌, ◌≤◌, ◌==◌, ◌||◌, nat_le, not, Bool, true, false, cond, List, [], ◌∷◌, ◌++◌, length, find, take, Option, Some}
-use Rattle.std.proofs.{Common.{None, is_some, Result, Ok, Err, refl, sym, ap, subst, ◌∙◌, arith}, lemmas.{Bool.{and_parts, eq-eqb, eqb-true}, List.Elements.All-contains}}
-use Rattle.std.{proofs.lemmas.Option.same_Some, specs.{List.list_any, Option.{option_map, option_map_or}}}
+use Rattle.std.proofs.{Common.{None, is_some, Result, Ok, Err, refl, sym, ap, subst, ◌∙◌, arith}, lemmas.{Bool.{and_parts, eq-eqb, eqb-true}}}
+use Rattle.std.{proofs.lemmas.Option.same_Some, specs.{List.list_any, Option.{option_map_or}}}
 use Rattle.vs_contents.{specs.CallTree.{Done, bind}, proofs.Leads.{AllEnds, end_of}}
-use Rattle.vs_flow.{proofs.Entries.found_passes, specs.{Flow.{host_asks, is_assigned}, declared.flow.Flow.Flow}}
+use Rattle.vs_flow.{proofs.Entries.found_passes, specs.{Flow.{is_assigned}, declared.flow.Flow.Flow}}
 use Rattle.vs_limits.specs.declared.TheConstants.{DRIVER_CONNECTIONS, HOST_CID, LAST_PORT, LISTENERS}
 use Rattle.laws_tables.proofs.Slots.{found_by}
 use Rattle.vs_ring_port.specs.{Contents.RingContents, EndLog.EndLog}
@@ -13,7 +13,7 @@ use Rattle.vs_driver_parts.specs.{Conversations.{DriverTree, connect_of, connect
 use Rattle.vs_driver_parts.specs.{Conversations.{post_packet, reap_all, request_bytes, send_stopped}, Listening.{accept_of, is_answered, listener_on, listening, next_accepted}}
 use Rattle.vs_driver_parts.specs.{Listening.{with_port, with_waiting, without_id}, Playing.{Plays, RingAllows}, Receiving.{after_packet}}
 use Rattle.vs_driver_parts.specs.{State.{DriverEntry, DriverState}}
-use Rattle.vs_driver_parts.specs.{State.{GoneConnection, Listener, entry_known_as, gone_known_as, is_known_as}, declared.answers.{Accepted.Accepted, ConnectError.ConnectError}}
+use Rattle.vs_driver_parts.specs.{State.{Listener}, declared.answers.{Accepted.Accepted, ConnectError.ConnectError}}
 use Rattle.vs_driver_parts.specs.declared.answers.{ListenError.ListenError, Polled.Polled, Sent.Sent}
 use Rattle.laws_driver.specs.{Honest.{IsFresh, IsHonestWith}, Carried.Calls.{Accept, Close, Connect, Grow, GuestCall, Journal, Listen, LookAt, Made, Recv, ReplyTo, Send, Shutdown}}
 use Rattle.laws_driver.{specs.Carried.Calls.{Unlisten, is_right, names, whole_call}, proofs.{Calls.new_keeps, Carrying.{Carries, Fact}, Keeping.keeps_end, Polling.poll_keeps}}
@@ -21,27 +21,19 @@ use Rattle.laws_driver.proofs.Calling.{close_to, grow_to, recv_to, shutdown_to}
 use Rattle.laws_driver.proofs.Sighting.{Small, poll_sees}
 use Rattle.laws_driver.proofs.{Staging.Rests, Carried.{Growing.honest_stays, Making.{CarriesCall, whole_with}, Righting.told_before, Sending.begins}}
 use Rattle.laws_rest.proofs.Quiet.{ends_any, ends_then}
-use Rattle.vs_apps_parts.specs.{Journals.made_as, Told.{told_of, wait_of}, declared.journal.{Entry.Entry, WaitsFor.WaitsFor}}
+use Rattle.vs_apps_parts.specs.{Journals.made_as, declared.journal.{Entry.Entry}}
 use Rattle.laws_apps.specs.{Given.{AreGiven, AreGivenWith, ConnectTells, TellsGiven, heard_by, is_heard}, Placed.{ArePlaced, ArePlacedWith, IsAsked, IsClients, IsPlaced}}
-use Rattle.laws_apps.{specs.Placed.{IsPlacedEntry, IsPlacedGone, IsTo, accepted_as, asked_as, given_by, waits_at, was_closed, was_given}, proofs.Placed.{changed, one_of, or_first, other_listener, own_listener}}
+use Rattle.laws_apps.{specs.Placed.{IsTo, accepted_as, asked_as, given_by, waits_at, was_closed, was_given}, proofs.Placed.{changed, one_of, or_first, other_listener, own_listener}}
 use Rattle.laws_apps.proofs.{Placed.or_second, Placing.{IsOfApps, NamesAsked, noted}, Tracing.found_gone}
 use Rattle.vs_conn.specs.declared.end.Verdict.TheVariants as verdict
 use Rattle.vs_driver_parts.specs.declared.answers.Accepted.TheVariants as accepted
 use Rattle.vs_driver_parts.specs.declared.answers.ConnectError.TheVariants as refused
 use Rattle.vs_driver_parts.specs.declared.answers.ListenError.TheVariants as unheard
 use Rattle.vs_driver_parts.specs.declared.answers.Sent.TheVariants as sent
+use Rattle.std.proofs.lemmas.Grind.{common_steps}
 
 still_heard : (p q : ℕ) (change : List ℕ → List ℕ) (ls : List Listener) → is_some (listener_on p ls) ≡ true → is_some (listener_on p (with_waiting q change ls)) ≡ true
-still_heard p q change ls is = by (p == q) refl
-  where
-    mapped : (o : Option Listener) → is_some o ≡ true → is_some (option_map (changed change) o) ≡ true
-    mapped None none = none
-    mapped (Some l) some = refl
-
-    by : (b : Bool) → (p == q) ≡ b → is_some (listener_on p (with_waiting q change ls)) ≡ true
-    by false other = ap (λ (o : Option Listener). is_some o) (other_listener p q change other ls) ∙ is
-    by true same = subst (λ (n : ℕ). is_some (listener_on n ls) ≡ true → is_some (listener_on n (with_waiting q change ls)) ≡ true) (sym (eqb-true p q same))
-        (λ some. ap (λ (o : Option Listener). is_some o) (own_listener q change ls) ∙ mapped (listener_on q ls) some) is
+still_heard p q change ls is = grind (arith, common_steps, changed, other_listener, eqb-true, own_listener)
 
 -- Who waits where, before that.
 module _ (i : ℕ) where
@@ -54,16 +46,7 @@ module _ (i : ℕ) where
   before : (p q : ℕ) (change : List ℕ → List ℕ) (ls : List Listener)
       → ((ws : List ℕ) → list_any (λ w. w == i) (change ws) ≡ true → list_any (λ w. w == i) ws ≡ true)
       → waits_at p i (with_waiting q change ls) ≡ true → waits_at p i ls ≡ true
-  before p q change ls fewer is = by (p == q) refl
-    where
-      mapped : (o : Option Listener) → waits_in (option_map (changed change) o) ≡ true → waits_in o ≡ true
-      mapped None none = none
-      mapped (Some l) some = fewer l.waiting some
-
-      by : (b : Bool) → (p == q) ≡ b → waits_at p i ls ≡ true
-      by false other = elsewhere p q change ls other is
-      by true same = subst (λ (n : ℕ). waits_at n i (with_waiting q change ls) ≡ true → waits_at n i ls ≡ true) (sym (eqb-true p q same))
-          (λ some. mapped (listener_on q ls) (sym (ap (λ (o : Option Listener). waits_in o) (own_listener q change ls)) ∙ some)) is
+  before p q change ls fewer is = grind (arith, common_steps, changed, elsewhere, eqb-true, own_listener)
 
   -- Without an id that waits no more, and before one that waits since.
   fewer_without : (j : ℕ) (ws : List ℕ) → list_any (λ w. w == i) (without_id j ws) ≡ true → list_any (λ w. w == i) ws ≡ true
@@ -90,20 +73,10 @@ module _ (i : ℕ) where
       by false at so rest = rest (sym (ap (λ (b : Bool). b || list_any (λ v. v == i) (without_id i ws)) at) ∙ so)
 
   gone_there : (q : ℕ) (ls : List Listener) → waits_at q i (with_waiting q (without_id i) ls) ≡ true → ⊥
-  gone_there q ls is = by (listener_on q ls) (sym (ap (λ (o : Option Listener). waits_in o) (own_listener q (without_id i) ls)) ∙ is)
-    where
-      by : (o : Option Listener) → waits_in (option_map (changed (without_id i)) o) ≡ true → ⊥
-      by None none = absurd cc
-      by (Some l) some = none_left l.waiting some
+  gone_there q ls is = grind (arith, common_steps, own_listener, changed, none_left)
 
   fewer_behind : (n : ℕ) → (n == i) ≡ false → (ws : List ℕ) → list_any (λ w. w == i) (ws ++ n ∷ []) ≡ true → list_any (λ w. w == i) ws ≡ true
-  fewer_behind n other [] is = absurd (let no : true ≡ false = sym is ∙ ap (λ (b : Bool). b || false) other in cc)
-  fewer_behind n other (w ∷ ws) is = by (w == i) is (fewer_behind n other ws)
-    where
-      by : (b : Bool) → (b || list_any (λ v. v == i) (ws ++ n ∷ [])) ≡ true
-          → (list_any (λ v. v == i) (ws ++ n ∷ []) ≡ true → list_any (λ v. v == i) ws ≡ true) → (b || list_any (λ v. v == i) ws) ≡ true
-      by true so rest = refl
-      by false so rest = rest so
+  fewer_behind n is ws = grind (arith, common_steps)
 
   -- Where another port is listened on nobody waits there.
   before_listen : (p q : ℕ) (ls : List Listener) → waits_at p i (with_port q ls) ≡ true → waits_at p i ls ≡ true
@@ -152,13 +125,7 @@ module _ (journal : Journal) (next : ℕ) (ls : List Listener) (x : AreGiven jou
   back q j p i is = before i p q (without_id j) ls (fewer_without i j) is
 
   waits_less : (q j : ℕ) → AreGiven journal next (with_waiting q (without_id j) ls)
-  waits_less q j = record {
-    given = x.given;
-    waits = λ p i is. x.waits p i (back q j p i is);
-    one = λ p r i a b. x.one p r i (back q j p i a) (back q j r i b);
-    heard = λ p is. still_heard p q (without_id j) ls (x.heard p is);
-    all = x.all;
-  }
+  waits_less q j = grind (arith, common_steps, back, still_heard)
 
   not_given : (i : ℕ) → i ≡ next → (b : Bool) → was_given i journal ≡ b → b ≡ false
   not_given i same false is = refl
@@ -195,25 +162,12 @@ module _ (journal : Journal) (next : ℕ) (ls : List Listener) (x : AreGiven jou
       both p r i (inr a) (inl b) = let less = (x.waits r i b).0 in let same = a.0 in absurd (omega (arith, less, same))
 
   goes_on : (m : Made) → given_by m.call m.reply ≡ None → heard_by m.call m.reply ≡ None → TellsGiven m.call m.reply journal → AreGiven (m ∷ journal) next ls
-  goes_on m none unheard tells = record {
-    given = λ i is. x.given i (sym (same i) ∙ is);
-    waits = λ p i is. let w = x.waits p i is in (w.0, same i ∙ w.1);
-    one = x.one;
-    heard = λ p is. x.heard p (sym (ap (λ (o : Option ℕ). names p o || is_heard p journal) unheard) ∙ is);
-    all = (tells, x.all);
-  }
-    where
-      same : (i : ℕ) → was_given i (m ∷ journal) ≡ was_given i journal
-      same i = ap (λ (o : Option ℕ). names i o || was_given i journal) none
+  goes_on m none unheard tells = grind (arith, common_steps)
 
   -- Unless it told to wait.
   silent : (call : GuestCall) (reply : ReplyTo call) → given_by call reply ≡ None → heard_by call reply ≡ None → TellsGiven call reply journal
       → AreGiven (noted call reply journal) next ls
-  silent call reply none unheard tells = by (wait_of (told_of (made_as call reply)))
-    where
-      by : (o : Option WaitsFor) → AreGiven (elim o as (λ _. Journal) [ None ↦ made_as call reply ∷ journal | Some why ↦ journal ]) next ls
-      by None = goes_on (made_as call reply) none unheard tells
-      by (Some why) = x
+  silent call reply none unheard tells = grind (arith, common_steps, goes_on)
 
   -- An id is given: the next, or one that waits.
   module _ (m : Made) (id : ℕ) (gives : given_by m.call m.reply ≡ Some id) where
@@ -221,18 +175,10 @@ module _ (journal : Journal) (next : ℕ) (ls : List Listener) (x : AreGiven jou
     now i = ap (λ (o : Option ℕ). names i o || was_given i journal) gives
 
     below : (more i : ℕ) → id < more → next ≤ more → was_given i (m ∷ journal) ≡ true → i < more
-    below more i less most is = by (i == id) refl (sym (now i) ∙ is)
-      where
-        by : (b : Bool) → (i == id) ≡ b → (b || was_given i journal) ≡ true → i < more
-        by true same so = let own = eqb-true i id same in omega (arith, own, less)
-        by false other so = let under = x.given i so in omega (arith, under, most)
+    below more i less most is = grind (arith, common_steps, now, eqb-true)
 
     still_waits : (i : ℕ) → (i ≡ id → ⊥) → was_given i journal ≡ false → was_given i (m ∷ journal) ≡ false
-    still_waits i apart none = by (i == id) refl
-      where
-        by : (b : Bool) → (i == id) ≡ b → was_given i (m ∷ journal) ≡ false
-        by true same = absurd (apart (eqb-true i id same))
-        by false other = now i ∙ ap (λ (b : Bool). b || was_given i journal) other ∙ none
+    still_waits i apart none = grind (arith, common_steps, eqb-true, now)
 
   connects_given : (port : ℕ) → AreGiven (made_as (Connect port) (Ok next) ∷ journal) (next + 1) ls
   connects_given port = record {
@@ -262,25 +208,11 @@ module _ (journal : Journal) (next : ℕ) (ls : List Listener) (x : AreGiven jou
           gone_there id port ls (subst (λ (n : ℕ). waits_at n id (with_waiting port (without_id id) ls) ≡ true) (x.one p port id (back port id p id own) there) own)
 
   listens_given : (port : ℕ) → AreGiven (made_as (Listen port) (Ok tt) ∷ journal) next (with_port port ls)
-  listens_given port = record {
-    given = x.given;
-    waits = λ p i is. x.waits p i (before_listen i p port ls is);
-    one = λ p q i a b. x.one p q i (before_listen i p port ls a) (before_listen i q port ls b);
-    heard = λ p is. by p (p == port) refl is;
-    all = (tt, x.all);
-  }
-    where
-      by : (p : ℕ) (b : Bool) → (p == port) ≡ b → (b || is_heard p journal) ≡ true → is_some (listener_on p (with_port port ls)) ≡ true
-      by p true same so = subst (λ (n : ℕ). is_some (listener_on p (with_port n ls)) ≡ true) (eqb-true p port same) (heard_now p ls)
-      by p false other so = heard_before p port ls (x.heard p so)
+  listens_given port = grind (arith, common_steps, before_listen, eqb-true, heard_now, heard_before)
 
   -- It is listened on already.
   heard_given : (port : ℕ) → is_some (listener_on port ls) ≡ true → AreGiven (made_as (Listen port) (Err unheard.Taken) ∷ journal) next ls
-  heard_given port there = record { given = x.given; waits = x.waits; one = x.one; heard = λ p is. by p (p == port) refl is; all = (tt, x.all) }
-    where
-      by : (p : ℕ) (b : Bool) → (p == port) ≡ b → (b || is_heard p journal) ≡ true → is_some (listener_on p ls) ≡ true
-      by p true same so = subst (λ (n : ℕ). is_some (listener_on n ls) ≡ true) (sym (eqb-true p port same)) there
-      by p false other so = x.heard p so
+  heard_given port there = grind (arith, common_steps, eqb-true)
 
 -- A poll.
 module _ (journal : Journal) where
@@ -338,9 +270,7 @@ gives_after journal call reply part s log = IsSo call reply → AreGiven (noted 
 
 module _ (journal : Journal) where
   refusal : (port : ℕ) (why : ConnectError) (s : DriverState) → At journal s → ConnectTells port (Err why) [] → AreGiven (noted (Connect port) (Err why) journal) s.next_id s.listeners
-  refusal port (refused.BadPort p) s x is = silent journal s.next_id s.listeners x (Connect port) (Err (refused.BadPort p)) refl refl is
-  refusal port (refused.BadCid cid) s x is = absurd is
-  refusal port why s x is = silent journal s.next_id s.listeners x (Connect port) (Err why) refl refl tt
+  refusal port why s is was = grind (arith, common_steps, silent)
 
   unsent : (id : ℕ) (bytes : List ℕ) (answer : Sent) (s : DriverState) → At journal s → AreGiven (noted (Send id bytes) answer journal) s.next_id s.listeners
   unsent id bytes answer s x = silent journal s.next_id s.listeners x (Send id bytes) answer refl refl tt
@@ -412,9 +342,7 @@ module _ (journal : Journal) (s : DriverState) (placed : ArePlaced journal s) (x
     (is : accept_of port s ≡ accepted.Conn id) where
   next_is : (b : Bool) (o : Option ℕ) → cond b (elim o as (λ _. Accepted) [ None ↦ accepted.None | Some i ↦ accepted.Conn i ]) accepted.NotListening ≡ accepted.Conn id
       → o ≡ Some id
-  next_is true (Some i) at = let same : i ≡ id = cc in ap (λ (n : ℕ). let o : Option ℕ = Some n in o) same
-  next_is true None at = absurd cc
-  next_is false o at = absurd cc
+  next_is b o = grind (arith, common_steps)
 
   found_on : (o : Option Listener) → elim o as (λ _. Option ℕ) [ None ↦ None | Some l ↦ find (is_answered s) l.waiting ] ≡ Some id
       → (waits_in id o ≡ true) × (is_answered s id ≡ true)
@@ -425,39 +353,10 @@ module _ (journal : Journal) (s : DriverState) (placed : ArePlaced journal s) (x
   there = found_on (listener_on port s.listeners) (next_is (is_some (listener_on port s.listeners)) (next_accepted port s) is)
 
   on_port : (i : ℕ) (f : Flow) → i ≡ id → was_closed i journal ≡ false → IsPlaced journal s.listeners i f → IsClients port f
-  on_port i f same shown at = (guest, by (host_asks f) refl)
-    where
-      free : was_given i journal ≡ false
-      free = ap (λ (n : ℕ). was_given n journal) same ∙ (x.waits port id there.0).1
-
-      guest : f.guest ≡ port
-      guest = one_of (was_given i journal) (was_closed i journal) (waits_at f.guest i s.listeners) (f.guest ≡ port) at.known
-          (λ given. let no : true ≡ false = sym given ∙ free in absurd cc) (λ closed. let no : true ≡ false = sym closed ∙ shown in absurd cc)
-          (λ waits. x.one f.guest port id (subst (λ (n : ℕ). waits_at f.guest n s.listeners ≡ true) same waits) there.0)
-
-      by : (b : Bool) → host_asks f ≡ b → host_asks f ≡ true
-      by true so = so
-      by false so = let no : true ≡ false = sym (at.own so) ∙ free in absurd cc
+  on_port i f same shown at = grind (arith, common_steps, there, one_of)
 
   pub accepted_there : IsTo (IsClients port) (flow_of id s)
-  accepted_there = by (entry_known_as id s) refl (gone_known_as id s) refl there.1
-    where
-      open_one : (b : Bool) → not b ≡ true → b ≡ false
-      open_one false so = refl
-      open_one true so = absurd cc
-
-      by : (o : Option DriverEntry) → entry_known_as id s ≡ o → (q : Option GoneConnection) → gone_known_as id s ≡ q
-          → elim o as (λ _. Bool) [ None ↦ is_some q | Some e ↦ not e.value.unanswered ] ≡ true
-          → IsTo (IsClients port) (elim o as (λ _. Option Flow) [ None ↦ option_map (λ g. g.flow) q | Some e ↦ Some e.flow ])
-      by (Some e) at q left answered =
-          let found = found_by (is_known_as id) s.table.entries e at in
-          let parts = and_parts (e.value.id == id) (not e.value.closed) found.1 in
-          let at_e = All-contains (IsPlacedEntry journal s.listeners) s.table.entries e placed.entries found.0 in
-          on_port e.value.id e.flow (eqb-true e.value.id id parts.0) (sym at_e.value.closed ∙ open_one e.value.closed parts.1) at_e.placed
-      by None at (Some g) left answered =
-          let found = found_gone (λ (h : GoneConnection). h.id == id) s.gone g left in
-          let at_g = All-contains (IsPlacedGone journal s.listeners) s.gone g placed.gone found.0 in on_port g.id g.flow (eqb-true g.id id found.1) at_g.kept at_g.placed
-      by None at None left answered = absurd cc
+  accepted_there = grind (arith, common_steps, there, found_by, and_parts, on_port, eqb-true, found_gone)
 
 -- The flow of the connection that a call gave, by the driver after it.
 abbrev pub NamesIt : (call : GuestCall) → ReplyTo call → DriverState → Type 0

@@ -1,11 +1,11 @@
 -- What an entry more, a wait more and bytes more do to what a journal tells.
 use Rattle.std.proofs.Common.{arith}
 use Rattle.std.proofs.lemmas.Grind.{common_steps}
-use Rattle.std.proofs.Common.{◌≡◌, ℕ, zero, suc, ◌<◌, ◌≤◌, ◌==◌, Bool, true, false, cond, List, [], ◌∷◌, ◌++◌, length, Option, Some, None, refl, sym, ap, ◌∙◌}
+use Rattle.std.proofs.Common.{◌≡◌, ℕ, zero, suc, ◌<◌, ◌≤◌, Bool, true, false, cond, List, [], ◌∷◌, ◌++◌, length, Option, Some, None, refl, sym, ap, ◌∙◌}
 use Rattle.std.{proofs.{Common.{append_assoc, append-nil, slice_set, subst}}, specs.Prelude.slice_get}
 use Rattle.laws_driver.specs.Carried.Calls.{Journal}
-use Rattle.vs_apps_parts.specs.Journals.{AllStandIn, StandsIn, calls_of, calls_of_app, ends_at, entry_called, entry_waited, gathered, made_by, made_by_app}
-use Rattle.vs_apps_parts.specs.{Journals.{one_more, times_in, wait_noted}, Scripts.{RunScript}, declared.journal.{Called.Called}}
+use Rattle.vs_apps_parts.specs.Journals.{AllStandIn, StandsIn, calls_of, calls_of_app, ends_at, entry_called, gathered, made_by}
+use Rattle.vs_apps_parts.specs.{Journals.{times_in, wait_noted}, Scripts.{RunScript}, declared.journal.{Called.Called}}
 use Rattle.vs_apps_parts.{specs.declared.journal.{Entry.Entry, WaitsFor.WaitsFor}, proofs.Entries.{stand_set, stand_snoc, wait_as}}
 use Rattle.vs_flow.specs.Connection.{Connection}
 use Rattle.laws_apps.{specs.{Accounts.TellFlows, Placed.{AreOwned, IsOwned, NamesFlow}}, proofs.Opening.{flows_set, flows_snoc}}
@@ -39,9 +39,7 @@ calls_stay script bytes more es stand =
 
 pub app_calls_stay : (k : ℕ) (script : RunScript) (bytes more : List ℕ) (es : List Entry) → AllStandIn (length bytes) es
     → calls_of_app k script (bytes ++ more) es ≡ calls_of_app k script bytes es
-app_calls_stay k script bytes more es stand =
-    gathered_same (length bytes) (made_by_app k script (bytes ++ more)) (made_by_app k script bytes)
-    (λ e stands. ap (λ (js : Journal). cond (e.app == k) js []) (entry_stays script bytes more e stands)) es stand
+app_calls_stay k script bytes more es stand = grind (arith, common_steps, gathered_same, entry_stays)
 
 -- A wait tells of no call.
 module _ (script : RunScript) (bytes : List ℕ) (k times : ℕ) (e : Entry) (is : times_in k e ≡ Some times) where
@@ -106,29 +104,4 @@ called_stand n es k c are within = stand_snoc n es (entry_called k c) are within
 
 pub wait_same : (script : RunScript) (bytes : List ℕ) (k : ℕ) (why : WaitsFor) (last : Option ℕ) (es : List Entry)
     → SameCalls script bytes k es (wait_noted k why last es)
-wait_same script bytes k why last es = wait_as (SameCalls script bytes k es) k why last es added changed
-  where
-    added : SameCalls script bytes k es (es ++ entry_waited k 1 why ∷ [])
-    added = record {
-      calls = gathered_snoc (made_by script bytes) es (entry_waited k 1 why);
-      app = λ j. gathered_snoc (made_by_app j script bytes) es (entry_waited k 1 why)
-          ∙ ap (λ (js : Journal). js ++ calls_of_app j script bytes es) (none_still (k == j) [] refl);
-      stands = λ n are. stand_snoc n es (entry_waited k 1 why) are tt;
-      flows = λ opened are. flows_snoc opened es (entry_waited k 1 why) are tt;
-      owned = λ n less are. owned_snoc n es (entry_waited k 1 why) are (record { app = less; flow = tt });
-      ports = λ port are. ports_snoc port es (entry_waited k 1 why) are tt;
-      behind = λ port. behind_snoc port es (entry_waited k 1 why);
-    }
-
-    changed : (place times : ℕ) (e : Entry) → slice_get es place ≡ Some e → times_in k e ≡ Some times
-        → SameCalls script bytes k es (slice_set es place (entry_waited k (one_more times) why))
-    changed place times e at is = record {
-      calls = gathered_set (made_by script bytes) es place e (entry_waited k (one_more times) why) at (sym (wait_made script bytes k times e is));
-      app = λ j. gathered_set (made_by_app j script bytes) es place e (entry_waited k (one_more times) why) at
-          (none_still (k == j) [] refl ∙ sym (none_still (e.app == j) (made_by script bytes e) (wait_made script bytes k times e is)));
-      stands = λ n are. stand_set n k (one_more times) why es place are;
-      flows = λ opened are. flows_set opened k (one_more times) why es place are;
-      owned = λ n less are. owned_set n (entry_waited k (one_more times) why) es place are (record { app = less; flow = tt });
-      ports = λ port. ports_set port es place e (entry_waited k (one_more times) why) at (sym (wait_port script bytes k times e is));
-      behind = λ port. behind_set port es place e (entry_waited k (one_more times) why) at (sym (wait_port script bytes k times e is));
-    }
+wait_same script bytes k why last es = grind (arith, common_steps, wait_as, gathered_snoc, none_still, stand_snoc, flows_snoc, owned_snoc, ports_snoc, behind_snoc, gathered_set, wait_made, stand_set, flows_set, owned_set, ports_set, wait_port, behind_set)

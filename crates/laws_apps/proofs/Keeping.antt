@@ -1,10 +1,10 @@
 -- A step of an app keeps what is true of a run.
 use Rattle.std.proofs.lemmas.Grind.{common_steps}
-use Rattle.std.proofs.Common.{◌≡◌, ◌⊎◌, inl, inr, ℕ, ◌<◌, ◌≤◌, ◌==◌, Bool, true, false, cond, List, [], ◌∷◌, ◌++◌, length, Option, Some, None, Result, Ok, Err, refl, sym, ap}
-use Rattle.std.proofs.{Common.{subst, ◌∙◌, arith, slice_set, length-set, length-append}, lemmas.Bool.{eqb-true}}
+use Rattle.std.proofs.Common.{◌≡◌, ◌⊎◌, inl, inr, ℕ, ◌<◌, ◌==◌, Bool, true, false, cond, List, [], ◌∷◌, ◌++◌, length, Option, Some, None, Result, Ok, Err, refl, sym, ap}
+use Rattle.std.proofs.{Common.{subst, ◌∙◌, arith, slice_set, length-set}, lemmas.Bool.{eqb-true}}
 use Rattle.std.specs.{Option.unwrap_or, Prelude.slice_index_or}
 use Rattle.vs_driver_parts.specs.{State.DriverState, declared.answers.{Polled.Polled, Accepted.Accepted, ConnectError.ConnectError}, Connections.flow_of}
-use Rattle.laws_driver.{proofs.Calls.poll_honest, specs.Carried.Calls.{GuestCall, Journal, Made, ReplyTo, Unlisten, bytes_received, flow_accepted, flow_opened, with_call}}
+use Rattle.laws_driver.{proofs.Calls.poll_honest, specs.Carried.Calls.{GuestCall, Journal, Made, ReplyTo, Unlisten, flow_accepted, flow_opened, with_call}}
 use Rattle.laws_rest.proofs.Routes.{poll_routed}
 use Rattle.laws_apps.specs.{Placed.{AreOwned, ArePlaced, HasItsFlow, IsAsked, IsClients, IsTo, NamesFlow, accepted_as, asked_as, given_by, was_given}, Accounts.IsAccounted}
 use Rattle.laws_apps.specs.Runs.{IsKept, IsRunOf, MakesCall, MakesCalls, Moves, NotesCall, CallsNext, HasFlow, PollsTo, Run, Steps, Waits, app_at, journal_of, journal_of_app}
@@ -16,7 +16,7 @@ use Rattle.vs_apps_parts.proofs.Entries.{more_stand}
 use Rattle.laws_apps.proofs.Entries.{called_owned, called_stand, calls_stay, gathered_snoc, wait_same}
 use Rattle.vs_flow.specs.declared.flow.Flow.{Flow}
 use Rattle.vs_apps_parts.specs.declared.{journal.{Called.Called, Entry.Entry, WaitsFor.WaitsFor}, progress.{AppState.AppState, Progress.Progress, Stepped.Stepped}, told.Told.Told}
-use Rattle.vs_apps_parts.specs.Journals.{AllStandIn, calls_of, calls_of_app, entry_called, last_wait, made_as, made_by, made_by_app, made_of, wait_noted, wait_place}
+use Rattle.vs_apps_parts.specs.Journals.{AllStandIn, last_wait, made_as, made_of, wait_noted, wait_place}
 use Rattle.vs_apps_parts.specs.{Scripts.{IsPlayed, RunScript, acts_of, calls_in, id_of, told_in, with_noted}, Told.{step_wait, told_by, told_of, wait_of}}
 use Rattle.vs_driver_parts.specs.declared.answers.Accepted.TheVariants as accepted
 use Rattle.vs_apps_parts.specs.declared.journal.Called.TheVariants as called
@@ -39,16 +39,7 @@ module _ (script : RunScript) (k : ℕ) (m : Made) (old new : Run) (stand : AllS
 
   calls_after : (o : Option WaitsFor) → wait_of (told_of m) ≡ o → NotesCall script k m o old new
       → noted (journal_of script old) ≡ journal_of script new
-  calls_after (Some why) told notes =
-      noted_by (Some why) (journal_of script old) told
-      ∙ sym (ap (λ (es : List Entry). calls_of script new.bytes es) notes.0 ∙ ap (λ (bs : List ℕ). calls_of script bs old.entries) notes.1)
-  calls_after None told notes =
-      noted_by None (journal_of script old) told
-      ∙ sym (ap (λ (es : List Entry). calls_of script new.bytes es) notes.3
-      ∙ gathered_snoc (made_by script new.bytes) old.entries (entry_called k notes.0)
-      ∙ ap (λ (x : Made). x ∷ calls_of script new.bytes old.entries) notes.1
-      ∙ ap (λ (js : Journal). m ∷ js) (ap (λ (bs : List ℕ). calls_of script bs old.entries) notes.4
-      ∙ calls_stay script old.bytes (bytes_received m.call m.reply) old.entries stand))
+  calls_after o = grind (arith, common_steps, noted_by, gathered_snoc, calls_stay)
 
   one_app : (b : Bool) (journal : Journal) → wait_of (told_of m) ≡ None → cond b (m ∷ []) [] ++ journal ≡ cond b (noted journal) journal
   one_app true journal told = sym (noted_by None journal told)
@@ -60,16 +51,7 @@ module _ (script : RunScript) (k : ℕ) (m : Made) (old new : Run) (stand : AllS
 
   app_after : (j : ℕ) (o : Option WaitsFor) → wait_of (told_of m) ≡ o → NotesCall script k m o old new
       → journal_of_app j script new ≡ cond (k == j) (noted (journal_of_app j script old)) (journal_of_app j script old)
-  app_after j (Some why) told notes =
-      ap (λ (es : List Entry). calls_of_app j script new.bytes es) notes.0
-      ∙ ap (λ (bs : List ℕ). calls_of_app j script bs old.entries) notes.1 ∙ no_app_more (k == j) (journal_of_app j script old) why told
-  app_after j None told notes =
-      ap (λ (es : List Entry). calls_of_app j script new.bytes es) notes.3
-      ∙ gathered_snoc (made_by_app j script new.bytes) old.entries (entry_called k notes.0)
-      ∙ ap (λ (x : Made). cond (k == j) (x ∷ []) [] ++ calls_of_app j script new.bytes old.entries) notes.1
-      ∙ ap (λ (js : Journal). cond (k == j) (m ∷ []) [] ++ js) (ap (λ (bs : List ℕ). calls_of_app j script bs old.entries) notes.4
-      ∙ app_calls_stay j script old.bytes (bytes_received m.call m.reply) old.entries stand)
-      ∙ one_app (k == j) (journal_of_app j script old) told
+  app_after j o = grind (arith, common_steps, no_app_more, gathered_snoc, app_calls_stay, one_app)
 
   -- Where each app waits.
   waits_by : (o : Option WaitsFor) (b : Bool) (was : Option ℕ) → wait_of (told_of m) ≡ o
@@ -79,22 +61,10 @@ module _ (script : RunScript) (k : ℕ) (m : Made) (old new : Run) (stand : AllS
 
   waits_call : (j : ℕ) (o : Option WaitsFor) → wait_of (told_of m) ≡ o → NotesCall script k m o old new
       → last_wait j new.entries ≡ cond (k == j) (waits_noted (m ∷ []) (last_wait j old.entries)) (last_wait j old.entries)
-  waits_call j (Some why) told notes =
-      ap (λ (es : List Entry). last_wait j es) notes.0 ∙ either (k == j) (last_wait j old.entries)
-      ∙ waits_by (Some why) (k == j) (last_wait j old.entries) told
-  waits_call j None told notes =
-      ap (λ (es : List Entry). last_wait j es) notes.3 ∙ called_waits j k old.entries notes.0 ∙ waits_by None (k == j) (last_wait j old.entries) told
+  waits_call j o = grind (arith, common_steps, either, waits_by, called_waits)
 
   stand_after : (o : Option WaitsFor) → NotesCall script k m o old new → AllStandIn (length new.bytes) new.entries
-  stand_after (Some why) notes =
-      subst (λ (es : List Entry). AllStandIn (length new.bytes) es) (sym notes.0)
-      (subst (λ (bs : List ℕ). AllStandIn (length bs) old.entries) (sym notes.1) stand)
-  stand_after None notes =
-      let more : List ℕ = bytes_received m.call m.reply in
-      let less : length old.bytes ≤ length new.bytes =
-      omega (arith, ap (λ (bs : List ℕ). length bs) notes.4, length-append old.bytes more) in
-      subst (λ (es : List Entry). AllStandIn (length new.bytes) es) (sym notes.3)
-      (called_stand (length new.bytes) old.entries k notes.0 (more_stand (length old.bytes) (length new.bytes) less old.entries stand) notes.2)
+  stand_after o = grind (arith, common_steps, called_stand, more_stand)
 
 -- The entries with which the account is right, once the call is noted.
 flows_after : (script : RunScript) (k : ℕ) (m : Made) (old new : Run) (journal : Journal) (o : Option WaitsFor) → NotesCall script k m o old new
@@ -139,10 +109,7 @@ names_flow script bytes k c s has named = tt
 
 owned_after : (script : RunScript) (k : ℕ) (m : Made) (old new : Run) (o : Option WaitsFor) → k < length script → NotesCall script k m o old new
     → NamesIt m.call m.reply new.driver → AreOwned (length script) old.entries → AreOwned (length script) new.entries
-owned_after script k m old new (Some why) less notes named owned = subst (AreOwned (length script)) (sym notes.0) owned
-owned_after script k m old new None less notes named owned =
-    subst (AreOwned (length script)) (sym notes.3) (called_owned (length script) old.entries k notes.0 less owned
-    (names_flow script new.bytes k notes.0 new.driver notes.5 (subst (λ (x : Made). NamesIt x.call x.reply new.driver) (sym notes.1) named)))
+owned_after script k m old new o = grind (arith, common_steps, called_owned, names_flow)
 
 module _ (first : ℕ) (script : RunScript) (k : ℕ) (less : k < length script) where
   pub call_keeps : (n : ℕ) (m : Made) (old new : Run) → IsApps n m.call → (n ≡ 0) ⊎ (was_given n (journal_of script old) ≡ true) → MakesCall script k m old new
@@ -197,10 +164,7 @@ module _ (first : ℕ) (script : RunScript) (k : ℕ) (less : k < length script)
 
   pub still_given : (n : ℕ) (m : Made) (old mid : Run) → IsKept first script old → MakesCall script k m old mid → (n ≡ 0) ⊎ (was_given n (journal_of script old) ≡ true)
       → (n ≡ 0) ⊎ (was_given n (journal_of script mid) ≡ true)
-  still_given n m old mid kept makes (inl none) = inl none
-  still_given n m old mid kept makes (inr given) =
-      inr (subst (λ (js : Journal). was_given n js ≡ true) (calls_after script k m old mid kept.stands (wait_of (told_of m)) refl makes.notes)
-      (still_did given_by n (m ∷ []) (journal_of script old) given))
+  still_given n m old mid = grind (arith, common_steps, calls_after, still_did)
 
   calls_leave : (n : ℕ) (made : List Made) (old new : Run) → AreApps n (calls_in made) → (n ≡ 0) ⊎ (was_given n (journal_of script old) ≡ true)
       → MakesCalls script k made old new → IsKept first script old → Leaves made old new

@@ -1,8 +1,8 @@
 -- What a journal tells of the driver's connections, through each change of them.
-use Rattle.std.proofs.Common.{◌≡◌, ◌≤◌, ◌⊎◌, inl, inr, ℕ, zero, suc, ◌+◌, ◌==◌, ◌||◌, Bool, true, false, not, cond, List, [], ◌∷◌, ◌++◌, filter, drop, map, Contains, get_or}
-use Rattle.std.proofs.{Common.{Some, refl, sym, ap, ◌∙◌, arith}, lemmas.{Grind.common_steps, List.Elements.{All-contains, All-filter, All-map, All-push}}}
+use Rattle.std.proofs.Common.{◌≡◌, ◌≤◌, ◌⊎◌, inl, inr, ℕ, ◌+◌, ◌==◌, Bool, true, false, not, cond, List, [], ◌∷◌, ◌++◌, filter, map, Contains, get_or}
+use Rattle.std.proofs.{Common.{Some, refl, arith}, lemmas.{Grind.common_steps, List.Elements.{All-filter, All-map, All-push}}}
 use Rattle.std.{proofs.lemmas.List.Elements.Contains-get_or, specs.List.All}
-use Rattle.vs_conn.specs.{End.{ConnectionEnd, aborted, end_after, owes_of, paid_of, verdict_of, with_payload_forwarded, with_shut}, Shut.shut_of, declared.end.Owed.Owed}
+use Rattle.vs_conn.specs.{End.{ConnectionEnd, aborted, end_after, owes_of, paid_of, verdict_of, with_payload_forwarded, with_shut}, declared.end.Owed.Owed}
 use Rattle.vs_conn.{specs.declared.end.{Verdict.Verdict, State.TheVariants.Ended}, proofs.Frames.{got_over, got_own, paid_over, paid_own, paid_peer}}
 use Rattle.vs_flow.specs.{Table.{revalued}}
 use Rattle.vs_header.specs.declared.Header.{Header}
@@ -10,7 +10,7 @@ use Rattle.laws_history.specs.declared.packet.Packet.{Packet}
 use Rattle.vs_driver_parts.specs.{State.{DriverConnection, DriverEntry, DriverState}, Connections.{after_leaving, after_read, after_shut, paid_connection, waits_no_more}}
 use Rattle.vs_driver_parts.specs.{Connections.{with_connection}, Receiving.{after_packet}}
 use Rattle.laws_driver.proofs.Sighting.{Small, poll_sees}
-use Rattle.laws_driver.{proofs.Carrying.{Carries, Fact}, specs.Carried.Calls.{Journal, Made, Connect, Listen, Unlisten, Accept, Send, Recv, Shutdown, Grow, Close, LookAt}}
+use Rattle.laws_driver.{proofs.Carrying.{Carries, Fact}, specs.Carried.Calls.{Journal, Made}}
 use Rattle.vs_apps_parts.specs.Told.{told_of}
 use Rattle.laws_apps.specs.Traces.{AllTell, AtId, IsClosing, IsDrained, IsStopped, IsTraced, TellsOf, is_shut, is_touched}
 use Rattle.vs_conn.specs.declared.end.Owed.TheVariants as owed
@@ -53,20 +53,11 @@ abbrev pub Came : Journal → ℕ → List DriverEntry → DriverEntry → Type 
 Came by next es d = Comes by es d.value ⊎ ((next ≤ d.value.id) × (is_touched d.value ≡ false))
 
 closed_touched : (c : DriverConnection) → c.closed ≡ true → is_touched c ≡ true
-closed_touched c is = by c.end.own.send c.end.own.receive
-  where
-    by : (a b : Bool) → (a || (b || c.closed)) ≡ true
-    by true b = refl
-    by false true = refl
-    by false false = is
+closed_touched c is = grind (arith, common_steps)
 
 module _ (by : Journal) (next then : ℕ) (es fs : List DriverEntry) (more : next ≤ then) (came : All (Came by next es) fs) where
   pub at_id : (P : DriverConnection → Type 0) → Lasts P → (id : ℕ) → AtId P id next es → AtId P id then fs
-  at_id P lasts id at = (let less = at.0 in omega (arith, less, more), λ k d less is. from (get_or fs k d) (came k d less) is)
-    where
-      from : (d : DriverEntry) → Came by next es d → d.value.id ≡ id → P d.value
-      from d (inl c) is = lasts c.entry.value d.value c.later (All-contains (λ e. e.value.id ≡ id → P e.value) es c.entry at.1 c.within (sym c.id_is ∙ is))
-      from d (inr new) is = let above = new.0 in let less = at.0 in absurd (omega (arith, above, less, is))
+  at_id P lasts id at = grind (arith, common_steps)
 
   either : (P : DriverConnection → Type 0) → Lasts P → (id : ℕ) (older : Journal) → (is_shut id older ≡ true) ⊎ AtId P id next es
       → (is_shut id older ≡ true) ⊎ AtId P id then fs
@@ -74,57 +65,18 @@ module _ (by : Journal) (next then : ℕ) (es fs : List DriverEntry) (more : nex
   either P lasts id older (inr at) = inr (at_id P lasts id at)
 
   pub tells_still : (m : Made) (older : Journal) → TellsOf m.call (told_of m) older next es → TellsOf m.call (told_of m) older then fs
-  tells_still m older tells = by_call m.call (told_of m) tells
-    where
-      by_call : (call : _) (t : _) → TellsOf call t older next es → TellsOf call t older then fs
-      by_call (Send id bytes) t tells = (λ ends. either IsStopped stopped_lasts id older (tells.0 ends), tells.1)
-      by_call (Recv id n) t tells = λ ends. either IsDrained drained_lasts id older (tells ends)
-      by_call (Close id) t tells = at_id IsClosing closing_lasts id tells
-      by_call (Connect port) t tells = tt
-      by_call (Listen port) t tells = tt
-      by_call (Unlisten port) t tells = tt
-      by_call (Accept port) t tells = tt
-      by_call (Shutdown id bits) t tells = tt
-      by_call (Grow id alloc) t tells = tt
-      by_call (LookAt id) t tells = tt
+  tells_still m older tells = grind (arith, common_steps, either, stopped_lasts, drained_lasts, at_id, closing_lasts)
 
   tell_still : (j : Journal) → AllTell j next es → AllTell j then fs
   tell_still [] all = tt
   tell_still (m ∷ older) all = (tells_still m older all.0, tell_still older all.1)
 
   pub traced_still : (journal : Journal) → IsTraced by journal next es → IsTraced by journal then fs
-  traced_still journal x = record {
-    touched = λ k d less is. touched (get_or fs k d) (came k d less) is;
-    closed = λ k d less is. closed (get_or fs k d) (came k d less) is;
-    tell = tell_still journal x.tell;
-  }
-    where
-      touched : (d : DriverEntry) → Came by next es d → is_touched d.value ≡ true → is_shut d.value.id by ≡ true
-      touched d (inr new) is = let no : true ≡ false = sym is ∙ new.1 in absurd cc
-      touched d (inl c) is = on (c.touched is)
-        where
-          on : (is_touched c.entry.value ≡ true) ⊎ (is_shut d.value.id by ≡ true) → is_shut d.value.id by ≡ true
-          on (inl was) = ap (λ (id : ℕ). is_shut id by) c.id_is
-              ∙ All-contains (λ e. is_touched e.value ≡ true → is_shut e.value.id by ≡ true) es c.entry x.touched c.within was
-          on (inr now) = now
-
-      closed : (d : DriverEntry) → Came by next es d → d.value.closed ≡ true → IsClosing d.value
-      closed d (inr new) is = let no : true ≡ false = sym (closed_touched d.value is) ∙ new.1 in absurd cc
-      closed d (inl c) is = on (c.closed is)
-        where
-          on : (c.entry.value.closed ≡ true) ⊎ IsClosing d.value → IsClosing d.value
-          on (inl was) = closing_lasts c.entry.value d.value c.later (All-contains (λ e. e.value.closed ≡ true → IsClosing e.value) es c.entry x.closed c.within was)
-          on (inr now) = now
+  traced_still journal x = grind (arith, common_steps, tell_still, closed_touched, closing_lasts)
 
 -- The changes of a table.
 pub same_later : (c : DriverConnection) → IsLater c c.end c.unread
-same_later c = record {
-  over = λ is. is;
-  shut_send = λ is. is;
-  shut_receive = λ is. is;
-  peer_receives = λ is. is;
-  drained = λ peer none. inr (peer, none);
-}
+same_later c = grind (arith, common_steps)
 
 module _ (by : Journal) (next : ℕ) (es : List DriverEntry) where
   stays : (e : DriverEntry) → Contains es e → Came by next es e
@@ -152,25 +104,12 @@ module _ (by : Journal) (next : ℕ) (es : List DriverEntry) where
 -- A change that the guest didn't decide.
 pub comes_as : (by : Journal) (es : List DriverEntry) (e : DriverEntry) (c : DriverConnection) → Contains es e → c.id ≡ e.value.id
     → c.end.own ≡ e.value.end.own → c.closed ≡ e.value.closed → IsLater e.value c.end c.unread → Comes by es c
-comes_as by es e c within id own closed later = record {
-  entry = e;
-  within = within;
-  id_is = id;
-  later = later;
-  touched = λ is. inl (ap (λ o. o.send || (o.receive || e.value.closed)) (sym own) ∙ ap (λ (b : Bool). c.end.own.send || (c.end.own.receive || b)) (sym closed) ∙ is);
-  closed = λ is. inl (sym closed ∙ is);
-}
+comes_as by es e c within id own closed later = grind (arith, common_steps)
 
 -- What an end does.
 pub end_later : (c : DriverConnection) (e : ConnectionEnd) → (c.end.state ≡ Ended → e.state ≡ Ended) → e.own ≡ c.end.own → e.peer ≡ c.end.peer
     → IsLater c e c.unread
-end_later c e over own peer = record {
-  over = over;
-  shut_send = λ is. ap (λ o. o.send) own ∙ is;
-  shut_receive = λ is. ap (λ o. o.receive) own ∙ is;
-  peer_receives = λ is. ap (λ o. o.receive) peer ∙ is;
-  drained = λ sends none. inr (ap (λ o. o.send) peer ∙ sends, none);
-}
+end_later c e over own peer = grind (arith, common_steps)
 
 got_receives : (e : ConnectionEnd) (h : Header) → e.peer.receive ≡ true → (end_after e h).peer.receive ≡ true
 got_receives e h is = grind (arith, common_steps, is)
@@ -188,52 +127,17 @@ shut_over : (e : ConnectionEnd) (bits : ℕ) → e.state ≡ Ended → (with_shu
 shut_over e bits over = grind (arith, common_steps, over)
 
 packet_later : (v : Verdict) (p : Packet) (c : DriverConnection) → verdict_of c.end p.header ≡ v → IsLater c (after_packet v p c).end (after_packet v p c).unread
-packet_later verdict.Deliver p c is = record {
-  over = got_over c.end p.header;
-  shut_send = λ own. ap (λ o. o.send) (got_own c.end p.header) ∙ own;
-  shut_receive = λ own. ap (λ o. o.receive) (got_own c.end p.header) ∙ own;
-  peer_receives = got_receives c.end p.header;
-  drained = λ sends none. absurd (not_delivered c.end p.header sends is);
-}
-packet_later _ p c is = record {
-  over = got_over c.end p.header;
-  shut_send = λ own. ap (λ o. o.send) (got_own c.end p.header) ∙ own;
-  shut_receive = λ own. ap (λ o. o.receive) (got_own c.end p.header) ∙ own;
-  peer_receives = got_receives c.end p.header;
-  drained = λ sends none. inr (got_sends c.end p.header sends, none);
-}
+packet_later v p c = grind (arith, common_steps, got_over, got_own, got_receives, not_delivered, got_sends)
 
 packet_comes : (by : Journal) (es : List DriverEntry) (e : DriverEntry) (v : Verdict) (p : Packet) → Contains es e → verdict_of e.value.end p.header ≡ v
     → Comes by es (after_packet v p e.value)
-packet_comes by es e verdict.Deliver p within is =
-    comes_as by es e (after_packet verdict.Deliver p e.value) within refl (got_own e.value.end p.header) refl (packet_later verdict.Deliver p e.value is)
-packet_comes by es e v p within is = comes_as by es e (after_packet v p e.value) within refl (got_own e.value.end p.header) refl (packet_later v p e.value is)
+packet_comes by es e v p = grind (arith, common_steps, comes_as, got_own, packet_later)
 
 pub read_later : (n : ℕ) (c : DriverConnection) → IsLater c (after_read n c).end (after_read n c).unread
-read_later n c = record {
-  over = forwarded_over c.end _;
-  shut_send = λ is. is;
-  shut_receive = λ is. is;
-  peer_receives = λ is. is;
-  drained = λ sends none. inr (sends, ap (drop n) none ∙ nothing n);
-}
-  where
-    nothing : (m : ℕ) → let none : List ℕ = [] in drop m none ≡ none
-    nothing zero = refl
-    nothing (suc m) = refl
+read_later n c = grind (arith, common_steps, forwarded_over)
 
 pub shut_later : (bits : ℕ) (c : DriverConnection) → IsLater c (after_shut bits c).end (after_shut bits c).unread
-shut_later bits c = record {
-  over = shut_over c.end bits;
-  shut_send = λ is. ap (λ (b : Bool). b || (shut_of bits).send) is;
-  shut_receive = λ is. ap (λ (b : Bool). b || (shut_of bits).receive) is;
-  peer_receives = λ is. is;
-  drained = λ sends none. inr (sends, by (with_shut c.end bits).own.receive none);
-}
-  where
-    by : (b : Bool) → c.unread ≡ [] → cond b [] c.unread ≡ []
-    by true none = refl
-    by false none = none
+shut_later bits c = grind (arith, common_steps, shut_over)
 
 pub abort_later : (c : DriverConnection) → IsLater c (aborted c.end) c.unread
 abort_later c = record { over = λ is. refl; shut_send = λ is. is; shut_receive = λ is. is; peer_receives = λ is. is; drained = λ sends none. inl refl }

@@ -1,5 +1,5 @@
 -- What a call leaves that is made and noted.
-use Rattle.std.proofs.Common.{◌≡◌, ℕ, ◌≤◌, ◌<◌, ◌^◌, arith, true, List, [], ◌++◌, length, Option, Some, None, Result, Ok, Err, refl, sym, ap, subst, ◌∙◌, append-nil}
+use Rattle.std.proofs.Common.{◌≡◌, ℕ, ◌≤◌, ◌<◌, ◌^◌, arith, true, List, [], ◌++◌, length, Option, Some, None, Result, Ok, Err, refl, sym, ap, ◌∙◌, append-nil}
 use Rattle.std.{proofs.lemmas.Bool.Decides.nat_tests, specs.Prelude.{OnOk, OnErr}}
 use Rattle.vs_ring_port.specs.Contents.{RingContents}
 use Rattle.vs_driver_parts.specs.{Connections.{after_close, after_grow, after_shutdown, close_of, grow_of, shutdown_of, state_of}, Listening.{accept_of, after_accept, listen_of}}
@@ -10,6 +10,7 @@ use Rattle.vs_apps_parts.specs.{Journals.{called_noted, ends_at, made_as, made_o
 use Rattle.vs_apps_parts.specs.declared.{journal.WaitsFor.WaitsFor, progress.AppState.AppState, told.Told.Told}
 use Rattle.laws_apps.specs.{Runs.{HasFlow, NotesCall}, Calls.{CallsAs, run_with}}
 use Rattle.laws_driver.specs.Carried.Calls as call
+use Rattle.std.proofs.lemmas.Grind.{common_steps}
 
 module _ (script : RunScript) (k : ℕ) (made_call : GuestCall) (reply : ReplyTo made_call) (entry : Called) (t : DriverState) (old new : List Entry) (bytes : List ℕ)
     (made : made_of script bytes k entry ≡ made_as made_call reply) (within : ends_at entry ≤ length bytes) (flow : HasFlow entry t)
@@ -23,24 +24,12 @@ module _ (script : RunScript) (k : ℕ) (made_call : GuestCall) (reply : ReplyTo
   calls_with : (s : DriverState) (c d : RingContents) (apps : List AppState) (told : Told) → is_right made_call ≡ true
       → Plays (whole_call made_call s) c (t, reply) d → told ≡ told_by made_call reply → new ≡ called_noted k entry (wait_of told) old
       → CallsAs script k made_call told (run_with s c apps old bytes) (run_with t d apps new bytes)
-  calls_with s c d apps told right plays says noted = (
-    reply,
-    says,
-    record {
-      right = right;
-      plain = refl;
-      plays = plays;
-      apps = refl;
-      notes = notes s c d apps (wait_of (told_by made_call reply)) (noted ∙ ap (λ (x : Told). called_noted k entry (wait_of x) old) says);
-    },
-  )
+  calls_with s c d apps told right plays says noted = grind (arith, common_steps, notes)
 
   pub calls_as : (s : DriverState) (c d : RingContents) (apps : List AppState) (told : Told) (after : List ℕ) → is_right made_call ≡ true
       → Plays (whole_call made_call s) c (t, reply) d → told ≡ told_by made_call reply → new ≡ called_noted k entry (wait_of told) old → after ≡ bytes
       → CallsAs script k made_call told (run_with s c apps old bytes) (run_with t d apps new after)
-  calls_as s c d apps told after right plays says noted same =
-      subst (λ (xs : List ℕ). CallsAs script k made_call told (run_with s c apps old bytes) (run_with t d apps new xs)) (sym same)
-      (calls_with s c d apps told right plays says noted)
+  calls_as s c d apps told after right plays says noted same = grind (arith, common_steps, calls_with)
 
 -- Calls that need no ring.
 abbrev Same : (A B : Type 0) → A × B → A × B → Type 0

@@ -1,7 +1,7 @@
 -- What an app's calls name: its connection is one that it was given, so it closes no other, and it listens where its script says.
 use Rattle.std.proofs.lemmas.Grind.{common_steps}
 use Rattle.std.proofs.Common.{◌≡◌, ◌⊎◌, inl, inr, ℕ, ◌≤◌, ◌==◌, ◌||◌, Bool, true, false, cond, List, [], ◌∷◌, ◌++◌, Option, Some, None, Result, refl, sym, ap}
-use Rattle.std.{proofs.{Common.{subst, ◌∙◌, arith, slice_get}, lemmas.Bool.eqb-true}, specs.{List.list_any, Option.unwrap_or}}
+use Rattle.std.{proofs.{Common.{◌∙◌, arith, slice_get}, lemmas.Bool.eqb-true}, specs.{List.list_any, Option.unwrap_or}}
 use Rattle.vs_script.specs.{App.{Act, Listen, Close}}
 use Rattle.vs_apps_parts.specs.{Journals.{calls_of, calls_of_app, made_by, made_by_app}, Scripts.{RunScript, Follows, all_counted, all_noted, begun, calls_in, calls_next, counted}}
 use Rattle.vs_apps_parts.specs.{Scripts.{goes_to, id_of, told_in, with_noted}, declared.journal.{Entry.Entry, WaitsFor.WaitsFor}}
@@ -11,9 +11,7 @@ use Rattle.vs_driver_parts.specs.declared.answers.{Accepted.Accepted, ConnectErr
 use Rattle.vs_driver_parts.specs.declared.answers.{Received.Received, Sent.Sent}
 use Rattle.laws_driver.specs.Carried.Calls.{GuestCall, Journal, Made, ReplyTo, names}
 use Rattle.laws_apps.{specs.{Placed.{closed_by, given_by, listened_by, some_did, was_closed, was_given, was_listened}, Traces.id_told}, proofs.Placed.{one_of, or_first, or_second}}
-use Rattle.vs_driver_parts.specs.declared.answers.ConnectionState.TheVariants as seen
 use Rattle.laws_driver.specs.Carried.Calls as call
-use Rattle.vs_apps_parts.specs.declared.told.Told.TheVariants as told
 
 -- What some call of two journals did; and what an app did was done.
 module _ (by : (call : GuestCall) → ReplyTo call → Option ℕ) (m : ℕ) where
@@ -87,12 +85,7 @@ none_recv : (r : Received) (id : ℕ) → id_told (told_recv r) ≡ Some id → 
 none_recv r id is = grind (arith, common_steps)
 
 none_look : (r : ConnectionState) (id : ℕ) → id_told (told_look r) ≡ Some id → ⊥
-none_look seen.Asked id is = absurd cc
-none_look seen.Answering id is = absurd cc
-none_look seen.Live id is = absurd cc
-none_look seen.Ended id is = absurd cc
-none_look seen.Gone id is = absurd cc
-none_look seen.Unknown id is = absurd cc
+none_look r id = grind (arith, common_steps)
 
 was_told : (c : GuestCall) (reply : ReplyTo c) (id : ℕ) → id_told (told_by c reply) ≡ Some id → given_by c reply ≡ Some id
 was_told (call.Connect port) reply id is = none_connect reply id is
@@ -114,22 +107,7 @@ module _ (id : ℕ) where
   -- One that tells of an id doesn't wait, so it is noted.
   noted_told : (m : Made) (t : Told) (journal : Journal) → told_of m ≡ t → id_told t ≡ Some id
       → was_given id (elim (wait_of (told_of m)) as (λ _. Journal) [ None ↦ m ∷ journal | Some why ↦ journal ]) ≡ true
-  noted_told m t journal at is =
-      subst (λ (u : Told). was_given id (elim (wait_of u) as (λ _. Journal) [ None ↦ m ∷ journal | Some why ↦ journal ]) ≡ true) (sym at) (by t is)
-    where
-      found : names id (given_by m.call m.reply) ≡ true
-      found = ap (λ (o : Option ℕ). names id o) (was_told m.call m.reply id (ap id_told at ∙ is)) ∙ own
-        where
-          own : (id == id) ≡ true
-          own = grind arith
-
-      by : (u : Told) → id_told u ≡ Some id → was_given id (elim (wait_of u) as (λ _. Journal) [ None ↦ m ∷ journal | Some why ↦ journal ]) ≡ true
-      by (told.Asked n) so = or_first (names id (given_by m.call m.reply)) _ found
-      by (told.Given n) so = or_first (names id (given_by m.call m.reply)) _ found
-      by (told.Took n) so = absurd cc
-      by (told.Got n) so = absurd cc
-      by (told.Waits why) so = absurd cc
-      by told.Ends so = absurd cc
+  noted_told m t journal at is = grind (arith, common_steps, was_told, or_first)
 
   calls_give : (act : Act) (ms : List Made) (p : Progress) (journal : Journal) → (p.conn ≡ Some id → was_given id journal ≡ true)
       → (all_counted act (told_in ms) p).conn ≡ Some id → was_given id (with_noted ms journal) ≡ true
@@ -147,9 +125,7 @@ module _ (id : ℕ) where
   step_gives : (act : Act) (ms : List Made) (p : Progress) (journal : Journal) (o : Option WaitsFor) → (p.conn ≡ Some id → was_given id journal ≡ true)
       → (elim o as (λ _. Progress) [ Some why ↦ p | None ↦ goes_to act (told_in ms) (all_counted act (told_in ms) p) ]).conn ≡ Some id
       → was_given id (with_noted ms journal) ≡ true
-  step_gives act ms p journal (Some why) had is = still_did given_by id ms journal (had is)
-  step_gives act ms p journal None had is =
-      calls_give act ms p journal had (sym (goes_conn act (told_in ms) (all_counted act (told_in ms) p)) ∙ is)
+  step_gives act ms p journal o = grind (arith, common_steps, still_did, calls_give, goes_conn)
 
   pub conn_given : (acts : List Act) (steps : List (List Made)) (q : Progress) → Follows acts begun steps q → q.conn ≡ Some id
       → was_given id (all_noted steps) ≡ true

@@ -1,13 +1,13 @@
 -- Which calls a journal needs: those that sent or received no byte may come and go.
 use Rattle.std.proofs.Common.{arith}
 use Rattle.std.proofs.lemmas.Grind.{common_steps}
-use Rattle.std.proofs.{Common.{◌≡◌, ℕ, cond, List, [], ◌∷◌, ◌++◌, Option, Some, None, refl, sym, ap, subst, ◌∙◌, append-nil}, Math.Path.fun_ext}
+use Rattle.std.proofs.{Common.{◌≡◌, ℕ, cond, List, [], ◌∷◌, ◌++◌, refl, sym, ap, subst, ◌∙◌, append-nil}, Math.Path.fun_ext}
 use Rattle.vs_flow.specs.Connection.{Connection}
 use Rattle.vs_ring_port.specs.Contents.{RingContents}
 use Rattle.vs_driver_parts.specs.{declared.answers.{Received.Received, Sent.Sent}, Connections.{recv_of, unread_of_id}, Playing.Plays, State.DriverState}
 use Rattle.laws_driver.specs.{Honest.slots_of, Carried.Calls.{GuestCall, Journal, Made, ReplyTo, Recv, Send, bytes_received, bytes_sent, names, received_by, whole_call, with_call}}
 use Rattle.laws_driver.{specs.Carried.{Received.{AreReceived, bytes_got}, Senders.{AreSenders, sent_to}}, proofs.Carried.{Reading.given_none, Senders.there_none}}
-use Rattle.vs_apps_parts.specs.{Journals.made_as, Scripts.with_noted, Told.{told_of, wait_of}, declared.journal.{WaitsFor.WaitsFor, Entry.Entry}}
+use Rattle.vs_apps_parts.specs.{Journals.made_as, Scripts.with_noted, declared.journal.{Entry.Entry}}
 use Rattle.laws_apps.specs.Accounts.{IsAccounted}
 use Rattle.vs_driver_parts.specs.declared.answers.Received.TheVariants as recv
 use Rattle.vs_driver_parts.specs.declared.answers.Sent.TheVariants as send
@@ -58,14 +58,7 @@ module _ (s : DriverState) (j : Journal) where
   Noted call reply = SaysSame (with_call call s reply j) (with_noted (made_as call reply ∷ []) j)
 
   silent : (call : GuestCall) (reply : ReplyTo call) → bytes_sent call reply ≡ [] → bytes_received call reply ≡ [] → Noted call reply
-  silent call reply none_sent none_received = by (wait_of (told_of (made_as call reply)))
-    where
-      made : Made
-      made = made_as call reply
-
-      by : (o : Option WaitsFor) → SaysSame (with_call call s reply j) (elim o as (λ _. Journal) [ None ↦ made ∷ j | Some why ↦ j ])
-      by None = then_same (with_call call s reply j) j (made ∷ j) (silent_goes _ j none_sent none_received) (silent_comes made j none_sent none_received)
-      by (Some why) = silent_goes _ j none_sent none_received
+  silent call reply none_sent none_received = grind (arith, common_steps, then_same, silent_goes, silent_comes)
 
   send_noted : (id : ℕ) (bytes : List ℕ) (reply : Sent) → Noted (Send id bytes) reply
   send_noted id bytes (send.Took n) = record { received = λ other. refl; sent = λ opened c. refl; senders = λ opened are. are }

@@ -1,17 +1,16 @@
 -- The flows that a journal's entries tell of the connections that they opened.
 use Rattle.std.proofs.lemmas.Grind.{common_steps}
-use Rattle.std.proofs.Common.{◌≡◌, ℕ, zero, suc, ◌≤◌, ◌==◌, Bool, List, [], ◌∷◌, ◌++◌, Option, Some, None, Result, Ok, Err, refl, sym, subst, arith, slice_set}
-use Rattle.std.{proofs.lemmas.{Bool.Decides.nat_tests, List.Elements.All-contains, Option.{get_or_from_slice_get, slice_get_within}}, specs.Option.option_map}
-use Rattle.vs_flow.{specs.{Connection.Connection, declared.flow.Flow.Flow}, proofs.{Entries.found_passes, Lookups.find_place}}
+use Rattle.std.proofs.Common.{◌≡◌, ℕ, zero, suc, ◌≤◌, ◌==◌, Bool, List, [], ◌∷◌, ◌++◌, Option, Some, None, Result, Ok, Err, subst, arith, slice_set}
+use Rattle.std.{proofs.lemmas.{Bool.Decides.nat_tests, Option.{get_or_from_slice_get, slice_get_within}}, specs.Option.option_map}
+use Rattle.vs_flow.{specs.{Connection.Connection}, proofs.{Entries.found_passes, Lookups.find_place}}
 use Rattle.vs_page.specs.Log.{Log}
-use Rattle.vs_driver_parts.specs.{State.{DriverEntry, DriverState, GoneConnection, entry_known_as, gone_known_as, is_known_as}, Connections.flow_of}
+use Rattle.vs_driver_parts.specs.{State.{DriverEntry, DriverState, GoneConnection, entry_known_as, gone_known_as}, Connections.flow_of}
 use Rattle.vs_driver_parts.specs.declared.answers.{Accepted.Accepted, ConnectError.ConnectError}
 use Rattle.laws_tables.proofs.Slots.{found_by}
-use Rattle.laws_driver.specs.{Honest.slots_of, Carried.{Calls.{flow_accepted, flow_opened}, Received.{Account, AreReceived, ReceivedOn, ReceivesOn}}}
+use Rattle.laws_driver.specs.{Honest.slots_of, Carried.{Calls.{flow_accepted, flow_opened}, Received.{Account, AreReceived, ReceivedOn}}}
 use Rattle.vs_apps_parts.specs.{Journals.entry_waited, declared.journal.{Called.Called, Deed.Deed, Entry.Entry, WaitsFor.WaitsFor}}
 use Rattle.laws_apps.specs.{Accounts.{EntryTells, HasOne, IsAccepted, IsConnected, TellFlows, TellsFlow}, Runs.HasFlow}
 use Rattle.vs_driver_parts.specs.declared.answers.Accepted.TheVariants as accepted
-use Rattle.vs_apps_parts.specs.declared.journal.Called.TheVariants as called
 use Rattle.vs_apps_parts.specs.declared.journal.Deed.TheVariants as deed
 
 -- Where ids that had connections keep them, all that was told of them stays so.
@@ -43,14 +42,7 @@ module _ (opened : ℕ → Connection) where
 -- The flow by which the driver knows an id is that of the id's connection.
 module _ (a : Account) (log : Log) (s : DriverState) (account : AreReceived a log (slots_of s)) where
   held_has : (id : ℕ) (e : DriverEntry) → entry_known_as id s ≡ Some e → HasOne a.opened id (Some e.flow)
-  held_has id e known =
-      let on = All-contains (ReceivesOn a log) s.table.entries e account.held (found_by (is_known_as id) s.table.entries e known).0 in
-      let named : e.value.id ≡ id = id_is in
-      subst (λ (i : ℕ). HasOne a.opened i (Some e.flow)) named
-      (subst (λ (k : Connection). (1 ≤ k.number) × (k.flow ≡ e.flow)) (sym on.present) (on.some, refl))
-    where
-      id_is : e.value.id ≡ id
-      id_is = let passes = found_passes (is_known_as id) s.table.entries e known in grind (arith, nat_tests, passes)
+  held_has id e known = grind (arith, common_steps, found_by, found_passes, nat_tests)
 
   gone_has : (id : ℕ) (g : GoneConnection) → gone_known_as id s ≡ Some g → HasOne a.opened id (Some g.flow)
   gone_has id g found =
@@ -65,12 +57,7 @@ module _ (a : Account) (log : Log) (s : DriverState) (account : AreReceived a lo
   gone_by id (Some g) is = gone_has id g is
 
   flow_has : (id : ℕ) → HasOne a.opened id (flow_of id s)
-  flow_has id = by (entry_known_as id s) refl
-    where
-      by : (o : Option DriverEntry) → entry_known_as id s ≡ o
-          → HasOne a.opened id (elim o as (λ _. Option Flow) [ None ↦ option_map (λ g. g.flow) (gone_known_as id s) | Some e ↦ Some e.flow ])
-      by None is = gone_by id (gone_known_as id s) refl
-      by (Some e) is = held_has id e is
+  flow_has id = grind (arith, common_steps, gone_by, held_has)
 
   connected_has : (r : Result ℕ ConnectError) → IsConnected a.opened r (flow_opened r s)
   connected_has (Ok id) = flow_has id
@@ -81,6 +68,4 @@ module _ (a : Account) (log : Log) (s : DriverState) (account : AreReceived a lo
   accepted_has r = tt
 
   pub called_has : (c : Called) → HasFlow c s → TellsFlow a.opened c
-  called_has (called.Connect port answer flow) has = subst (IsConnected a.opened answer) (sym has) (connected_has answer)
-  called_has (called.Accept port answer flow) has = subst (IsAccepted a.opened answer) (sym has) (accepted_has answer)
-  called_has c has = tt
+  called_has c = grind (arith, common_steps, connected_has, accepted_has)

@@ -3,11 +3,12 @@ use Rattle.std.proofs.Common.{◌≡◌, ◌&&◌, if◌then◌else◌, ℕ, nat
 use Rattle.std.{proofs.{Common.arith, lemmas.{Bool.Decides.nat_tests, List.Elements.{All-append, All-cons, All-head, All-nil, All-tail}}}, specs.{List.All, Str.Parse.digits_value}}
 use Rattle.vs_script.specs.App.{Act, RunStep, Begin, Do, Connect, Listen, Accept, Send, Recv, Drain, Exchange, Shutdown, Grow, Close, connection_instruction, instruction_line}
 use Rattle.vs_script.specs.{App.{run_line, run_line_named}, Text.{is_empty, words_of}, declared.fault.{Refused.Refused, Why.{Why, TheVariants.BadNumber}}}
-use Rattle.vs_script.specs.{declared.{words.TheConstants.MAX_BITS, script.TheConstants.{MAX_APPS, MAX_INSTRUCTIONS, MAX_LINE, MAX_SCRIPT}}, Field.{Read, after, ending, held}}
+use Rattle.vs_script.specs.{declared.{words.TheConstants.MAX_BITS, script.TheConstants.{MAX_INSTRUCTIONS, MAX_LINE, MAX_SCRIPT}}, Field.{Read, after, ending, held}}
 use Rattle.vs_script.specs.{Field.{is_numeral, named, number_in, within, word}, Script.{Saying, Plays, Runs, Attacks, add_act, add_line, add_lines, add_run, add_step, add_words}}
 use Rattle.vs_script.specs.Script.{chained, lines_from, parse_of, pushed, unless_refused}
 use Rattle.vs_apps_parts.specs.Scripts.{AreRight, IsRight, RunScript}
 use Rattle.vs_script.specs.declared.script.Command.TheVariants as command
+use Rattle.std.proofs.lemmas.Grind.{common_steps}
 
 -- What is read has a property, where nothing is at fault.
 abbrev Holds : {X E : Type 0} → (X → Type 0) → Result X E → Type 0
@@ -98,9 +99,7 @@ act_right (app ∷ next ∷ apps) act all may =
     (λ more is. All-cons (All IsRight) app more (All-head (All IsRight) app (next ∷ apps) all) is)
 
 step_right : (apps : RunScript) (r : Result RunStep Why) → AreRight apps → Holds IsRightStep r → Holds AreRight (chained r (add_step apps))
-step_right apps (Ok Begin) all may = pushed_right (All IsRight) MAX_APPS apps [] all (All-nil IsRight)
-step_right apps (Ok (Do act)) all may = act_right apps act all may
-step_right apps (Err why) all may = tt
+step_right apps r = grind (arith, common_steps, pushed_right, act_right)
 
 -- All that a text says.
 abbrev IsRightSaying : Saying → Type 0

@@ -1,10 +1,10 @@
 -- What each change of the driver's connections and listeners leaves of what a journal's calls left.
-use Rattle.std.proofs.Common.{◌≡◌, ◌≢◌, ℕ, zero, suc, ◌+◌, ◌<◌, ◌≤◌, ◌==◌, ◌||◌, ◌&&◌, not, Bool, true, false, cond, List, [], ◌∷◌, ◌++◌, length, drop, get_or, Option, Some, None}
+use Rattle.std.proofs.Common.{◌≡◌, ◌≢◌, ℕ, zero, suc, ◌+◌, ◌<◌, ◌≤◌, ◌==◌, ◌||◌, not, Bool, true, false, cond, List, [], ◌∷◌, ◌++◌, length, get_or, Option, Some, None}
 use Rattle.std.proofs.{Common.{is_some, refl, sym, ap, subst, ◌∙◌, arith}, lemmas.{Bool.{Decides.nat_tests, eq-eqb, eqb-true}, Grind.common_steps, List.Elements.All-cons}}
 use Rattle.std.{proofs.lemmas.List.Elements.{All-contains, All-filter, All-head, All-map, All-push, All-tail, filter_passes}, specs.List.{All, filter, list_any}}
 use Rattle.std.specs.Option.{option_map, option_map_or}
-use Rattle.vs_conn.specs.{End.{ConnectionEnd, end_after, owes_of, with_payload_forwarded, with_shut}, declared.end.{Owed.Owed, State.{State, TheVariants.{Answering, Asked}}}}
-use Rattle.vs_conn.{specs.declared.{end.State.TheVariants.{Ended, Live}, shut.Shut.Shut}, proofs.Frames.{got_asked, got_answering, got_over, got_own}}
+use Rattle.vs_conn.specs.{End.{ConnectionEnd, end_after, owes_of, with_payload_forwarded, with_shut}, declared.end.{Owed.Owed, State.{TheVariants.{Answering}}}}
+use Rattle.vs_conn.{specs.declared.{end.State.TheVariants.{Live}}, proofs.Frames.{got_asked, got_answering, got_over, got_own}}
 use Rattle.vs_flow.specs.{Flow.host_asks, Table.{IsTable, Table, next_entry, revalued, with_entry, with_value, without}, declared.flow.Flow.Flow}
 use Rattle.vs_header.specs.declared.Header.{Header}
 use Rattle.vs_driver_parts.specs.Connections.{after_leaving, all_gone_after_read, gone_after_read, gone_as, paid_connection, waits_no_more, with_connection}
@@ -26,9 +26,7 @@ or_second true b is = refl
 or_second false b is = is
 
 pub one_of : (a b c : Bool) (P : Type 0) → (a || (b || c)) ≡ true → (a ≡ true → P) → (b ≡ true → P) → (c ≡ true → P) → P
-one_of true b c P is first second third = first refl
-one_of false true c P is first second third = second refl
-one_of false false c P is first second third = third is
+one_of a b c P = grind (arith, common_steps)
 
 -- The listener on a port, where the waiting of one changes.
 abbrev pub changed : (List ℕ → List ℕ) → Listener → Listener
@@ -65,13 +63,7 @@ own_listener q change (l ∷ ls) = by (own_listener q change ls) (l.port == q) r
 
 -- Who waits on a port, when the listeners change.
 pub stays_behind : (id x : ℕ) (ws : List ℕ) → list_any (λ w. w == id) ws ≡ true → list_any (λ w. w == id) (ws ++ x ∷ []) ≡ true
-stays_behind id x [] is = absurd cc
-stays_behind id x (w ∷ ws) is = by (w == id) is (stays_behind id x ws)
-  where
-    by : (b : Bool) → (b || list_any (λ v. v == id) ws) ≡ true → (list_any (λ v. v == id) ws ≡ true → list_any (λ v. v == id) (ws ++ x ∷ []) ≡ true)
-        → (b || list_any (λ v. v == id) (ws ++ x ∷ [])) ≡ true
-    by true is rest = refl
-    by false is rest = rest is
+stays_behind id x ws = grind (arith, common_steps)
 
 comes_last : (id : ℕ) (ws : List ℕ) → list_any (λ w. w == id) (ws ++ id ∷ []) ≡ true
 comes_last id [] = ap (λ (b : Bool). b || false) (eq-eqb id id refl)
@@ -96,16 +88,7 @@ module _ (port id : ℕ) where
   pub waits_kept : (q : ℕ) (change : List ℕ → List ℕ)
       → ((ws : List ℕ) → list_any (λ w. w == id) ws ≡ true → list_any (λ w. w == id) (change ws) ≡ true) → (ls : List Listener)
       → waits_at port id ls ≡ true → waits_at port id (with_waiting q change ls) ≡ true
-  waits_kept q change keeps ls is = by (port == q) refl
-    where
-      mapped : (o : Option Listener) → in_first o ≡ true → in_first (option_map (changed change) o) ≡ true
-      mapped None none = none
-      mapped (Some l) some = keeps l.waiting some
-
-      by : (b : Bool) → (port == q) ≡ b → waits_at port id (with_waiting q change ls) ≡ true
-      by false other = ap in_first (other_listener port q change other ls) ∙ is
-      by true same = subst (λ (n : ℕ). in_first (listener_on n ls) ≡ true → in_first (listener_on n (with_waiting q change ls)) ≡ true)
-          (sym (eqb-true port q same)) (λ some. ap in_first (own_listener q change ls) ∙ mapped (listener_on q ls) some) is
+  waits_kept q change keeps ls is = grind (arith, common_steps, other_listener, eqb-true, own_listener)
 
   pub waits_snoc : (l : Listener) (ls : List Listener) → waits_at port id ls ≡ true → waits_at port id (ls ++ l ∷ []) ≡ true
   waits_snoc l [] is = absurd cc
@@ -118,11 +101,7 @@ module _ (port id : ℕ) where
 
 pub waits_now : (port id : ℕ) (ls : List Listener) → is_some (listener_on port ls) ≡ true
     → waits_at port id (with_waiting port (λ ws. ws ++ id ∷ []) ls) ≡ true
-waits_now port id ls some = ap (in_first port id) (own_listener port (λ ws. ws ++ id ∷ []) ls) ∙ now (listener_on port ls) some
-  where
-    now : (o : Option Listener) → is_some o ≡ true → in_first port id (option_map (changed (λ ws. ws ++ id ∷ [])) o) ≡ true
-    now None none = absurd cc
-    now (Some l) there = comes_last id l.waiting
+waits_now port id ls some = grind (arith, common_steps, own_listener, comes_last)
 
 pub ports_kept : (P : ℕ → Type 0) (q : ℕ) (change : List ℕ → List ℕ) (ls : List Listener) → All (λ l. P l.port) ls
     → All (λ l. P l.port) (with_waiting q change ls)
@@ -140,16 +119,7 @@ pub placed_on : (journal now : Journal) (ls ms : List Listener) (id : ℕ) (f : 
     → (was_closed id journal ≡ true → (was_given id now || was_closed id now) ≡ true)
     → (waits_at f.guest id ls ≡ true → (was_given id now || (was_closed id now || waits_at f.guest id ms)) ≡ true)
     → IsPlaced journal ls id f → IsPlaced now ms id f
-placed_on journal now ls ms id f given closed waits placed = record {
-  known = one_of (was_given id journal) (was_closed id journal) (waits_at f.guest id ls) _ placed.known
-      (λ is. or_first (was_given id now) _ (given is)) (λ is. both (was_given id now) (was_closed id now) (closed is)) waits;
-  own = λ mine. given (placed.own mine);
-}
-  where
-    both : (a b : Bool) → (a || b) ≡ true → (a || (b || waits_at f.guest id ms)) ≡ true
-    both true b is = refl
-    both false true is = refl
-    both false false is = absurd cc
+placed_on journal now ls ms id f given closed waits placed = grind (arith, common_steps, one_of, or_first)
 
 -- What an end's steps leave.
 pub record StandsOn (e d : ConnectionEnd) : Type 0 where
@@ -160,28 +130,7 @@ got_live : (e : ConnectionEnd) (h : Header) → e.state ≡ Answering → (end_a
 got_live e h is live = absurd (grind (arith, common_steps, is, live))
 
 pub got_stands : (e : ConnectionEnd) (h : Header) → StandsOn e (end_after e h)
-got_stands e h = record { closed = closes e.state (end_after e h).state refl refl; unanswered = answers e.state (end_after e h).state refl refl }
-  where
-    closes : (a b : State) → e.state ≡ a → (end_after e h).state ≡ b → stands_closed a e.own ≡ true → stands_closed b (end_after e h).own ≡ true
-    closes a Ended was now is = refl
-    closes Live Live was now is = ap (λ (s : Shut). s.send && s.receive) (got_own e h) ∙ is
-    closes Live Asked was now is = let no : Live ≡ Asked = sym was ∙ got_asked e h now in absurd cc
-    closes Live Answering was now is = let no : Live ≡ Answering = sym was ∙ got_answering e h now in absurd cc
-    closes Ended Live was now is = let no : Ended ≡ Live = sym (got_over e h was) ∙ now in absurd cc
-    closes Ended Asked was now is = let no : Ended ≡ Asked = sym (got_over e h was) ∙ now in absurd cc
-    closes Ended Answering was now is = let no : Ended ≡ Answering = sym (got_over e h was) ∙ now in absurd cc
-    closes Asked b was now is = absurd cc
-    closes Answering b was now is = absurd cc
-
-    answers : (a b : State) → e.state ≡ a → (end_after e h).state ≡ b → stands_unanswered a ≡ true → stands_unanswered b ≡ true
-    answers a Ended was now is = refl
-    answers a Answering was now is = refl
-    answers Answering Live was now is = absurd (got_live e h was now)
-    answers Answering Asked was now is = let no : Answering ≡ Asked = sym was ∙ got_asked e h now in absurd cc
-    answers Ended Live was now is = let no : Ended ≡ Live = sym (got_over e h was) ∙ now in absurd cc
-    answers Ended Asked was now is = let no : Ended ≡ Asked = sym (got_over e h was) ∙ now in absurd cc
-    answers Live b was now is = absurd cc
-    answers Asked b was now is = absurd cc
+got_stands e h = grind (arith, common_steps, got_own, got_asked, got_answering, got_over, got_live)
 
 forwarded_closed : (e : ConnectionEnd) (n : ℕ) → stands_closed e.state e.own ≡ true → stands_closed (with_payload_forwarded e n).state (with_payload_forwarded e n).own ≡ true
 forwarded_closed e n is = grind (arith, common_steps, is)
@@ -204,11 +153,7 @@ shut_stands e bits = record { closed = shut_closed e bits; unanswered = shut_una
 -- A connection with another end.
 pub value_goes : (journal : Journal) (c d : DriverConnection) → d.id ≡ c.id → d.closed ≡ c.closed → d.unanswered ≡ c.unanswered → StandsOn c.end d.end
     → IsPlacedValue journal c → IsPlacedValue journal d
-value_goes journal c d id closed unanswered stands value = record {
-  closed = closed ∙ value.closed ∙ ap (λ (i : ℕ). was_closed i journal) (sym id);
-  shut = λ is. stands.closed (value.shut (sym closed ∙ is));
-  waits = λ is. stands.unanswered (value.waits (sym unanswered ∙ is));
-}
+value_goes journal c d id closed unanswered stands value = grind (arith, common_steps)
 
 -- What a connection owes is put.
 owes_response : (e : ConnectionEnd) → owes_of e ≡ Some owed.Response → e.state ≡ Answering
@@ -216,12 +161,7 @@ owes_response e owes = grind (arith, common_steps, owes)
 
 pub paid_value : (journal : Journal) (c : DriverConnection) (what : Owed) → owes_of c.end ≡ Some what → IsPlacedValue journal c
     → IsPlacedValue journal (paid_connection what c)
-paid_value journal c owed.Response owes value = record {
-  closed = value.closed;
-  shut = λ is. let no : true ≡ false = sym (value.shut is) ∙ ap (λ (st : State). stands_closed st c.end.own) (owes_response c.end owes) in absurd cc;
-  waits = λ is. absurd cc;
-}
-paid_value journal c what owes value = value_goes journal c (paid_connection what c) refl refl refl (record { closed = λ is. is; unanswered = λ is. is }) value
+paid_value journal c what = grind (arith, common_steps, owes_response, value_goes)
 
 module _ (journal : Journal) (s : DriverState) (x : ArePlaced journal s) where
   -- Another connection in the place of an entry's.
@@ -367,23 +307,13 @@ module _ (journal : Journal) (m : Made) (s : DriverState) (x : ArePlaced journal
     now i = ap (λ (o : Option ℕ). names i o || was_closed i journal) found
 
     still : (i : ℕ) → i ≢ id → was_closed i journal ≡ was_closed i (m ∷ journal)
-    still i apart = by (i == id) refl ∙ sym (now i)
-      where
-        by : (b : Bool) → (i == id) ≡ b → was_closed i journal ≡ (b || was_closed i journal)
-        by false is = refl
-        by true is = absurd (apart (eqb-true i id is))
+    still i apart = grind (arith, common_steps, now, eqb-true)
 
     one : (i : ℕ) (f : Flow) → IsPlaced journal s.listeners i f → IsPlaced (m ∷ journal) s.listeners i f
-    one i f placed = placed_on journal (m ∷ journal) s.listeners s.listeners i f (or_second (names i (given_by m.call m.reply)) _)
-        (λ is. or_second (was_given i (m ∷ journal)) _ (or_second (names i (closed_by m.call m.reply)) _ is))
-        (λ is. or_second (was_given i (m ∷ journal)) _ (or_second (was_closed i (m ∷ journal)) _ is)) placed
+    one i f placed = grind (arith, common_steps, placed_on, or_second)
 
     was_below : (i : ℕ) → was_closed i (m ∷ journal) ≡ true → i < s.next_id
-    was_below i is = by (i == id) refl (sym (now i) ∙ is)
-      where
-        by : (b : Bool) → (i == id) ≡ b → (b || was_closed i journal) ≡ true → i < s.next_id
-        by true same so = subst (λ (n : ℕ). n < s.next_id) (sym (eqb-true i id same)) less
-        by false other so = x.below i so
+    was_below i is = grind (arith, common_steps, now, eqb-true)
 
     pub closes : (t : Table DriverConnection) → AreNumbered 1 s.next_port s.next_id t s.gone → All (IsPlacedEntry (m ∷ journal) s.listeners) t.entries
         → HasPlaces (m ∷ journal) s.next_port s.next_id t s.gone s.listeners
@@ -456,11 +386,7 @@ module _ (journal : Journal) (s : DriverState) (x : ArePlaced journal s) (f : Fl
 
 -- Bytes of one that is gone are read; and one that is gone is closed.
 read_one : (id n : ℕ) (g : GoneConnection) → ((gone_after_read id n g).id ≡ g.id) × ((gone_after_read id n g).flow ≡ g.flow)
-read_one id n g = by (g.id == id)
-  where
-    by : (b : Bool) → let h : GoneConnection = cond b (record g { unread = drop n g.unread }) g in (h.id ≡ g.id) × (h.flow ≡ g.flow)
-    by true = (refl, refl)
-    by false = (refl, refl)
+read_one id n g = grind (arith, common_steps)
 
 read_at : (id n : ℕ) (gone : List GoneConnection) (k : ℕ) (d : GoneConnection) → k < length (all_gone_after_read id n gone)
     → (k < length gone) × (get_or (all_gone_after_read id n gone) k d ≡ gone_after_read id n (get_or gone k d))
@@ -470,35 +396,7 @@ read_at id n (g ∷ gs) (suc k) d less = let rest = read_at id n gs k d (omega (
 
 module _ (journal : Journal) (s : DriverState) (x : ArePlaced journal s) where
   pub reading : (id n : ℕ) → ArePlaced journal (record s { gone = all_gone_after_read id n s.gone })
-  reading id n = record {
-    numbers = record {
-      given = x.numbers.given;
-      slots = x.numbers.slots;
-      below = λ k d less. let at = read_at id n s.gone k d less in subst (λ (i : ℕ). i < s.next_id) (sym (own k d less)) (x.numbers.below k d at.0);
-      apart = λ k d less i e within. let at = read_at id n s.gone k d less in
-          subst (λ (j : ℕ). (get_or s.table.entries i e).value.id ≢ j) (sym (own k d less)) (x.numbers.apart k d at.0 i e within);
-      distinct = λ i j d before less. let b = read_at id n s.gone j d less in
-          let a = own i d (omega (arith, before, less)) in
-          subst (λ (k : ℕ). k ≢ (get_or (all_gone_after_read id n s.gone) j d).id) (sym a)
-          (subst (λ (k : ℕ). (get_or s.gone i d).id ≢ k) (sym (own j d less)) (x.numbers.distinct i j d before b.0));
-      ports = x.numbers.ports;
-    };
-    entries = x.entries;
-    gone = λ k d less. let at = read_at id n s.gone k d less in
-        subst (IsPlacedGone journal s.listeners) (sym at.1) (one (get_or s.gone k d) (x.gone k d at.0));
-    below = x.below;
-    ports = x.ports;
-  }
-    where
-      own : (k : ℕ) (d : GoneConnection) → k < length (all_gone_after_read id n s.gone) → (get_or (all_gone_after_read id n s.gone) k d).id ≡ (get_or s.gone k d).id
-      own k d less = let at = read_at id n s.gone k d less in ap (λ (g : GoneConnection). g.id) at.1 ∙ (read_one id n (get_or s.gone k d)).0
-
-      one : (g : GoneConnection) → IsPlacedGone journal s.listeners g → IsPlacedGone journal s.listeners (gone_after_read id n g)
-      one g was = by (g.id == id)
-        where
-          by : (b : Bool) → IsPlacedGone journal s.listeners (cond b (record g { unread = drop n g.unread }) g)
-          by true = record { placed = was.placed; kept = was.kept }
-          by false = was
+  reading id n = grind (arith, common_steps, read_at, one, read_one)
 
   pub gone_less : (p : GoneConnection → Bool) → ArePlaced journal (record s { gone = filter p s.gone })
   gone_less p = record {
@@ -511,15 +409,4 @@ module _ (journal : Journal) (s : DriverState) (x : ArePlaced journal s) where
 
   -- A port more is listened on.
   pub listens : (port : ℕ) → was_listened port journal ≡ true → ArePlaced journal (record s { listeners = with_port port s.listeners })
-  listens port is = record {
-    numbers = x.numbers;
-    entries = λ k d less. let y = x.entries k d less in record { placed = one _ _ y.placed; value = y.value };
-    gone = λ k d less. let g = x.gone k d less in record { placed = one _ _ g.placed; kept = g.kept };
-    below = x.below;
-    ports = All-push (λ (l : Listener). was_listened l.port journal ≡ true) s.listeners (record { port = port; waiting = [] }) x.ports is;
-  }
-    where
-      one : (i : ℕ) (f : Flow) → IsPlaced journal s.listeners i f → IsPlaced journal (with_port port s.listeners) i f
-      one i f was = placed_on journal journal s.listeners (with_port port s.listeners) i f (λ so. so) (λ so. or_second (was_given i journal) _ so)
-          (λ so. or_second (was_given i journal) _ (or_second (was_closed i journal) _
-          (waits_snoc f.guest i (record { port = port; waiting = [] }) s.listeners so))) was
+  listens port is = grind (arith, common_steps, one, placed_on, or_second, waits_snoc)

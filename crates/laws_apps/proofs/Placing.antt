@@ -56,9 +56,7 @@ module _ (journal : Journal) (s : DriverState) (x : ArePlaced journal s) where
   -- A packet of a connection.
   module _ (p : Packet) (e : DriverEntry) (stands : Stands s e) where
     heard_value : (v : Verdict) → IsPlacedValue journal (after_packet v p e.value)
-    heard_value verdict.Deliver =
-        value_goes journal e.value (after_packet verdict.Deliver p e.value) refl refl refl (got_stands e.value.end p.header) (value_of e stands)
-    heard_value v = value_goes journal e.value (after_packet v p e.value) refl refl refl (got_stands e.value.end p.header) (value_of e stands)
+    heard_value v = grind (arith, common_steps, value_goes, got_stands, value_of)
 
   -- A REQUEST opens a connection, which waits on its port.
   parts : (a b c d e : Bool) → (a && b && c && d && e) ≡ true → ((a && b) ≡ true) × (c ≡ true)
@@ -133,9 +131,7 @@ module _ (journal : Journal) where
 
   pub opened_flow : (port : ℕ) (s : DriverState) → IsFitState true s → ArePlaced journal s
       → flow_of s.next_id (connected HOST_CID port s) ≡ Some (next_flow HOST_CID port s)
-  opened_flow port s fits x = last_found (is_known_as s.next_id) s.table.entries
-      (record { slot = s.table.given; flow = next_flow HOST_CID port s; value = record { id = s.next_id; end = paid_of (asked Stream BUF_ALLOC) owed.Request; unread = []; unanswered = false; closed = false } })
-      (unknown_yet s fits x) (ap (λ (b : Bool). b && true) (eq-eqb s.next_id s.next_id refl)) _
+  opened_flow port s fits x = grind (arith, common_steps, last_found, unknown_yet, eq-eqb)
 
   connects : (host : ℕ) (s : DriverState) → ArePlaced journal s → ArePlaced (made_as (Connect host) (Ok s.next_id) ∷ journal) (connected HOST_CID host s)
   connects host s x =
@@ -172,9 +168,7 @@ module _ (journal : Journal) where
   closed_live e live = grind (arith, common_steps, live)
 
   closed_so : (c : DriverConnection) → IsPlacedValue journal c → (st : State) → c.end.state ≡ st → IsOver c (after_closing st c)
-  closed_so c value state.Live is =
-      record { id = refl; closed = refl; shut = closed_live c.end is; waits = λ so. (shut_stands c.end 3).unanswered (value.waits so) }
-  closed_so c value st is = record { id = refl; closed = refl; shut = refl; waits = λ so. refl }
+  closed_so c is st = grind (arith, common_steps, closed_live, shut_stands)
 
   known : (id : ℕ) (i : ℕ) → i ≡ id → (was_given i (made_as (Close id) closed.Done ∷ journal) || was_closed i (made_as (Close id) closed.Done ∷ journal)) ≡ true
   known id i same = or_second (was_given i (made_as (Close id) closed.Done ∷ journal)) _ (or_first (i == id) (was_closed i journal) (eq-eqb i id same))

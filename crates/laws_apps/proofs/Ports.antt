@@ -1,17 +1,16 @@
 -- A step of an app keeps which guest ports connects gave.
-use Rattle.std.proofs.Common.{◌≡◌, ◌⊎◌, ℕ, ◌+◌, ◌<◌, ◌≤◌, ◌==◌, nat_le, Bool, true, false, cond, List, [], ◌∷◌, length, min, Option, Some, None}
+use Rattle.std.proofs.Common.{◌≡◌, ◌⊎◌, ℕ, ◌+◌, ◌<◌, ◌≤◌, nat_le, Bool, true, false, List, [], ◌∷◌, length, min, Option, Some, None}
 use Rattle.std.proofs.{Common.{Result, Ok, Err, refl, sym, ap, subst, ◌∙◌, arith}, lemmas.{Bool.Decides.nat_tests}}
-use Rattle.vs_conn.specs.{declared.end.{State.State}}
 use Rattle.vs_flow.specs.{declared.flow.Flow.Flow}
 use Rattle.vs_limits.specs.declared.TheConstants.{HOST_CID, LAST_PORT}
 use Rattle.vs_ring_port.specs.{Contents.RingContents}
 use Rattle.laws_tables.specs.Steps.{port_after}
-use Rattle.vs_driver_parts.specs.Connections.{after_leaving, after_read, all_gone_after_read, connected, entry_closed, entry_grow_answer}
-use Rattle.vs_driver_parts.specs.Connections.{entry_read, flow_of, free_flow, grown_by, next_flow, shut_in, waits_no_more, with_connection, without_gone}
+use Rattle.vs_driver_parts.specs.Connections.{after_leaving, all_gone_after_read, connected, entry_closed, entry_grow_answer}
+use Rattle.vs_driver_parts.specs.Connections.{entry_read, flow_of, free_flow, grown_by, next_flow, shut_in, without_gone}
 use Rattle.vs_driver_parts.specs.{Conversations.{new_of, poll_of}, Listening.{listen_of, listening, next_accepted, with_waiting, without_id}, Playing.Plays}
 use Rattle.vs_driver_parts.specs.{Receiving.{after_packet}}
 use Rattle.vs_driver_parts.specs.State.{DriverEntry, DriverState, GoneConnection, entry_known_as, gone_known_as}
-use Rattle.vs_driver_parts.specs.declared.answers.{ConnectError.ConnectError, Grown.Grown, ListenError.ListenError, Polled.Polled}
+use Rattle.vs_driver_parts.specs.declared.answers.{ConnectError.ConnectError, ListenError.ListenError, Polled.Polled}
 use Rattle.vs_driver_parts.proofs.Clean.{fresh_is, given_to, given_within, may_connect, port_rises}
 use Rattle.laws_driver.specs.{Honest.{IsFitState, IsFresh}, Carried.Calls.{Accept, Close, Connect, Grow, GuestCall, Journal, Listen, LookAt, Made, Recv, ReplyTo, Send, Shutdown}}
 use Rattle.laws_driver.{specs.Carried.Calls.{Unlisten, flow_opened, whole_call}, proofs.{Calls.new_keeps, Carrying.{Carries, Fact}, Keeping.keeps_end, Polling.poll_keeps}}
@@ -23,19 +22,14 @@ use Rattle.laws_apps.specs.{Placed.{ArePlaced, HasPlaces, was_given}, Ports.{Are
 use Rattle.laws_apps.specs.Runs.{CallsNext, HasFlow, IsKept, IsRunOf, MakesCall, MakesCalls, Moves, NotesCall, PollsTo, Run, Steps, Waits, app_at, journal_of}
 use Rattle.laws_apps.proofs.{Entries.{behind_snoc, ports_snoc, wait_same}, Giving.AreApps, Keeping.{apps_next, call_keeps, of_apps, own_given, polls_keep, still_given}}
 use Rattle.laws_apps.proofs.Placing.{IsOfApps, opened_flow, small_places}
-use Rattle.vs_conn.specs.declared.end.State.TheVariants as state
 use Rattle.vs_conn.specs.declared.end.Verdict.TheVariants as verdict
-use Rattle.vs_driver_parts.specs.declared.answers.Grown.TheVariants as rise
 use Rattle.vs_apps_parts.specs.declared.journal.Called.TheVariants as called
 use Rattle.vs_apps_parts.specs.declared.progress.Stepped.TheVariants as stepped
+use Rattle.std.proofs.lemmas.Grind.{common_steps}
 
 -- A poll leaves the driver's next port, and so do all calls but a connect.
 leaving_port : (e : DriverEntry) (s : DriverState) → (after_leaving e s).next_port ≡ s.next_port
-leaving_port e s = by e.value.unanswered
-  where
-    by : (b : Bool) → (cond b (waits_no_more e s) s).next_port ≡ s.next_port
-    by true = refl
-    by false = refl
+leaving_port e s = grind (arith, common_steps)
 
 -- The ids of the driver's connections are those that the journal left, and its next port is this one.
 abbrev at_port : ℕ → Journal → Fact
@@ -112,30 +106,15 @@ module _ (n : ℕ) where
 
   received_port : (id len : ℕ) (s : DriverState) → s.next_port ≡ n → (o : Option DriverEntry)
       → (elim o as (λ _. DriverState) [ Some e ↦ entry_read len e s | None ↦ record s { gone = all_gone_after_read id len s.gone } ]).next_port ≡ n
-  received_port id len s at None = at
-  received_port id len s at (Some e) = by (length e.value.unread == 0)
-    where
-      by : (b : Bool) → (cond b s (with_connection e.slot (after_read len e.value) s)).next_port ≡ n
-      by true = at
-      by false = at
+  received_port id len s is o = grind (arith, common_steps)
 
   shut_port : (bits : ℕ) (s : DriverState) → s.next_port ≡ n → (o : Option DriverEntry)
       → (elim o as (λ _. DriverState) [ Some e ↦ shut_in e.value.end.state bits e s | None ↦ s ]).next_port ≡ n
-  shut_port bits s at None = at
-  shut_port bits s at (Some e) = by e.value.end.state
-    where
-      by : (st : State) → (shut_in st bits e s).next_port ≡ n
-      by state.Live = at
-      by st = at
+  shut_port bits s is o = grind (arith, common_steps)
 
   grown_port : (alloc : ℕ) (s : DriverState) → s.next_port ≡ n → (o : Option DriverEntry)
       → (elim o as (λ _. DriverState) [ Some e ↦ grown_by (entry_grow_answer alloc e) alloc e s | None ↦ s ]).next_port ≡ n
-  grown_port alloc s at None = at
-  grown_port alloc s at (Some e) = by (entry_grow_answer alloc e)
-    where
-      by : (a : Grown) → (grown_by a alloc e s).next_port ≡ n
-      by rise.Done = at
-      by a = at
+  grown_port alloc s is o = grind (arith, common_steps)
 
   closed_port : (id : ℕ) (s : DriverState) → s.next_port ≡ n → (o : Option DriverEntry) (q : Option GoneConnection)
       → (elim o as (λ _. DriverState) [
@@ -145,9 +124,7 @@ module _ (n : ℕ) where
           | Some g ↦ record s { gone = without_gone id s.gone; listeners = with_waiting g.flow.guest (without_id id) s.listeners }
         ]
       ]).next_port ≡ n
-  closed_port id s at None None = at
-  closed_port id s at None (Some g) = at
-  closed_port id s at (Some e) q = at
+  closed_port id s is o q = grind (arith, common_steps)
 
   call_ports : (first : ℕ) (journal : Journal) (call : GuestCall) → IsOfApps call → CarriesCall first call (at_port n journal) (takes_port n call)
   call_ports first journal (Connect port) apps = record {
@@ -175,12 +152,7 @@ module _ (n : ℕ) where
 -- An entry that is noted has the port of the connection that its connect opened.
 asked_port : (n b : ℕ) (r : Result ℕ ConnectError) (flow : Option Flow) (s : DriverState) → n ≡ min b (LAST_PORT + 1) → flow ≡ flow_opened r s → Asks n r s
     → IsPort b (port_opened r flow) × (s.next_port ≡ min (next_port b (port_opened r flow)) (LAST_PORT + 1))
-asked_port n b (Ok id) flow s is has o =
-    subst (λ (f : Option Flow). IsPort b (port_opened (Ok id) f) × (s.next_port ≡ min (next_port b (port_opened (Ok id) f)) (LAST_PORT + 1))) (sym (has ∙ o.there)) (
-      λ left. let guest = o.guest (omega (arith, is, left)) in omega (arith, guest, is, left),
-      let next = o.next in omega (arith, next, is),
-    )
-asked_port n b (Err why) flow s is has at = (tt, at ∙ is)
+asked_port n b r flow s = grind (arith, common_steps)
 
 noted_port : (script : RunScript) (bytes : List ℕ) (k n b : ℕ) (c : Called) (s : DriverState) → n ≡ min b (LAST_PORT + 1) → HasFlow c s
     → (let m = made_of script bytes k c in TakesPort n m.call m.reply s)

@@ -1,7 +1,7 @@
 -- The calls of a step together, and what the step comes to.
 use Rattle.std.proofs.lemmas.Grind.{common_steps}
 use Rattle.std.proofs.Common.{◌≡◌, ◌<◌, ◌≤◌, ℕ, zero, suc, Bool, true, false, cond, List, [], ◌∷◌, ◌++◌, length, get_or, map, Option, Some, None, refl, sym, ap, subst, ◌∙◌, arith}
-use Rattle.std.{proofs.lemmas.Option.{slice_get-map, slice_get_past, slice_get_read}, specs.{List.All, Option.option_map, Prelude.slice_get}}
+use Rattle.std.{proofs.lemmas.Option.{slice_get-map, slice_get_past, slice_get_read}, specs.{List.All, Prelude.slice_get}}
 use Rattle.vs_script.specs.{App.{Act, instruction_view}, declared.app.{App.App, Instruction.Instruction}}
 use Rattle.vs_ring_port.specs.Contents.{RingContents}
 use Rattle.vs_driver_parts.specs.{Conversations.poll_of, Playing.Plays, State.DriverState, declared.answers.Polled.Polled}
@@ -68,12 +68,7 @@ module _ (script : RunScript) (k : ℕ) where
 
   pub both_made : (cs ds : List GuestCall) (ts us : List Told) (old mid new : Run) → MakesAll script k cs ts old mid → MakesAll script k ds us mid new
       → MakesAll script k (cs ++ ds) (ts ++ us) old new
-  both_made cs ds ts us old mid new one two = record {
-    made = one.made ++ two.made;
-    are = calls_then one.made two.made ∙ ap (λ (xs : List GuestCall). xs ++ calls_in two.made) one.are ∙ ap (λ (xs : List GuestCall). cs ++ xs) two.are;
-    tell = told_then one.made two.made ∙ ap (λ (xs : List Told). xs ++ told_in two.made) one.tell ∙ ap (λ (xs : List Told). ts ++ xs) two.tell;
-    makes = makes_then one.made two.made old mid new one.makes two.makes;
-  }
+  both_made cs ds ts us old mid new one two = grind (arith, common_steps, calls_then, told_then, makes_then)
 
   -- The data of the instruction that an app is at.
   pub data_of : (at : ℕ) (i is : Instruction) → slice_get (acts_of k script) at ≡ Some (instruction_view i) → i ≡ is
@@ -135,14 +130,10 @@ module _ (apps : List App) (k at : ℕ) (app : App) (items : List Instruction) (
   acts_are = grind (arith, common_steps)
 
   pub act_at : (i : Instruction) → at < length items → i ≡ get_or items at i → slice_get (acts_of k (script_of apps)) at ≡ Some (instruction_view i)
-  act_at i within found =
-      ap (λ (acts : List Act). slice_get acts at) acts_are ∙ slice_get-map instruction_view items at
-      ∙ ap (λ (o : Option Instruction). option_map instruction_view o) (slice_get_read items (length items) at i refl within found)
+  act_at i within found = grind (arith, common_steps, acts_are, slice_get-map, slice_get_read)
 
   pub no_act_at : length items ≤ at → slice_get (acts_of k (script_of apps)) at ≡ None
-  no_act_at past =
-      ap (λ (acts : List Act). slice_get acts at) acts_are ∙ slice_get-map instruction_view items at
-      ∙ ap (λ (o : Option Instruction). option_map instruction_view o) (slice_get_past items at past)
+  no_act_at past = grind (arith, common_steps, acts_are, slice_get-map, slice_get_past)
 
 -- An instruction of a right script is right.
 act_right : (acts : List Act) → All IsRight acts → (at : ℕ) (act : Act) → slice_get acts at ≡ Some act → IsRight act

@@ -45,9 +45,7 @@ IsApps n (LookAt id) = id ≡ n
 IsApps n call = Unit {0}
 
 pub found_gone : (p : GoneConnection → Bool) (gs : List GoneConnection) (g : GoneConnection) → find p gs ≡ Some g → Contains gs g × (p g ≡ true)
-found_gone p gs g is =
-    let place = find_place p gs g is in
-    ((place.0, slice_get_within gs place.0 g place.1, get_or_from_slice_get gs place.0 g g place.1), found_passes p gs g is)
+found_gone p gs g is = grind (arith, common_steps, find_place, slice_get_within, get_or_from_slice_get, found_passes)
 
 -- The driver's connections by their ids.
 module _ (s : DriverState) (sound : IsTable s.table) (numbers : AreNumbered 1 s.next_port s.next_id s.table s.gone) (journal : Journal)
@@ -201,12 +199,7 @@ module _ (s : DriverState) (sound : IsTable s.table) (numbers : AreNumbered 1 s.
 
 -- What a close leaves of a connection.
 closing : (st : State) (c : DriverConnection) → IsClosing (after_closing st c) × IsLater c (after_closing st c).end (after_closing st c).unread
-closing state.Live c = (inr (both c.end.own.send, both c.end.own.receive), shut_later 3 c)
-  where
-    both : (b : Bool) → (b || true) ≡ true
-    both true = refl
-    both false = refl
-closing _ c = (inl refl, abort_later c)
+closing st c = grind (arith, common_steps, shut_later, abort_later)
 
 closed_id : (st : State) (c : DriverConnection) → (after_closing st c).id ≡ c.id
 closed_id state.Live c = refl
@@ -234,9 +227,7 @@ module _ (s : DriverState) (by journal : Journal) (x : IsTraced by journal s.nex
   -- One that is shut, by its id.
   module _ (id : ℕ) (shut : is_shut id by ≡ true) where
     named : (e : DriverEntry) → entry_known_as id s ≡ Some e → Contains s.table.entries e × (is_shut e.value.id by ≡ true)
-    named e is =
-        let found = found_by (is_known_as id) s.table.entries e is in
-        (found.0, subst (λ (i : ℕ). is_shut i by ≡ true) (sym (eqb-true e.value.id id (and_parts (e.value.id == id) (not e.value.closed) found.1).0)) shut)
+    named e is = grind (arith, common_steps, found_by, eqb-true, and_parts)
 
     shutdown_still : (bits : ℕ) → Still (after_shutdown id bits s)
     shutdown_still bits = shutdown_to Still id s x bits (λ e is. value_traced by journal s e.slot (after_shut bits e.value) (record {
@@ -249,14 +240,7 @@ module _ (s : DriverState) (by journal : Journal) (x : IsTraced by journal s.nex
     }) x)
 
     close_comes : (e : DriverEntry) → Contains s.table.entries e × (is_shut e.value.id by ≡ true) → (st : State) → Comes by s.table.entries (after_closing st e.value)
-    close_comes e found st = record {
-      entry = e;
-      within = found.0;
-      id_is = closed_id st e.value;
-      later = (closing st e.value).1;
-      touched = λ is. inr (ap (λ (i : ℕ). is_shut i by) (closed_id st e.value) ∙ found.1);
-      closed = λ is. inr (closing st e.value).0;
-    }
+    close_comes e found st = grind (arith, common_steps, closed_id, closing)
 
     close_still : Still (after_close id s)
     close_still = close_to Still id s x
@@ -269,17 +253,7 @@ module _ (s : DriverState) (sound : IsTable s.table) (numbers : AreNumbered 1 s.
   Closes t = AtId IsClosing id t.next_id t.table.entries
 
   none_closing : entry_known_as id s ≡ None → Closes s
-  none_closing none = (less, λ k d within same. by (get_or s.table.entries k d) (Contains-get_or s.table.entries k d within) same)
-    where
-      by : (e : DriverEntry) → Contains s.table.entries e → e.value.id ≡ id → IsClosing e.value
-      by e within same = closed e.value.closed refl
-        where
-          closed : (b : Bool) → e.value.closed ≡ b → IsClosing e.value
-          closed true is = All-contains (λ d. d.value.closed ≡ true → IsClosing d.value) s.table.entries e x.closed within is
-          closed false is =
-              let no = All-contains (λ d. is_known_as id d ≡ false) s.table.entries e (none_found (is_known_as id) s.table.entries none) within in
-              let yes = eq-eqb e.value.id id same in
-              absurd (grind (arith, common_steps, no, yes, is))
+  none_closing none = grind (arith, common_steps, within, none_found, eq-eqb)
 
   closes_id : Closes (after_close id s)
   closes_id = at (entry_known_as id s) refl

@@ -1,9 +1,9 @@
 -- Where each app's last entry stands, if it is a wait.
 use Rattle.std.proofs.lemmas.Grind.{common_steps}
-use Rattle.std.proofs.Common.{◌≡◌, ℕ, zero, suc, ◌+◌, ◌==◌, Bool, true, false, cond, List, [], ◌∷◌, ◌++◌, length, Option, Some, None, refl, sym, ap, ◌∙◌, slice_set, arith}
-use Rattle.std.{proofs.lemmas.Bool.eqb-true, specs.{Option.unwrap_or, Prelude.slice_get}}
+use Rattle.std.proofs.Common.{◌≡◌, ℕ, zero, suc, ◌+◌, ◌==◌, cond, List, [], ◌∷◌, ◌++◌, length, Option, Some, None, refl, sym, ap, ◌∙◌, slice_set, arith}
+use Rattle.std.{proofs.lemmas.Bool.eqb-true, specs.{Prelude.slice_get}}
 use Rattle.laws_driver.specs.Carried.Calls.{Made}
-use Rattle.vs_apps_parts.specs.Journals.{entry_called, entry_waited, last_wait, last_wait_from, one_more, times_at, times_in, wait_noted, wait_place, waited_before, waits_after}
+use Rattle.vs_apps_parts.specs.Journals.{entry_called, entry_waited, last_wait, last_wait_from, times_in, wait_noted, wait_place, waits_after}
 use Rattle.vs_apps_parts.specs.{Scripts.told_in, Told.{step_wait, told_of, wait_of, waits_on}, declared.journal.{Called.Called, Entry.Entry, WaitsFor.WaitsFor}}
 use Rattle.vs_apps_parts.specs.declared.told.Told.{Told}
 use Rattle.vs_apps_parts.specs.declared.told.Told.TheVariants as says
@@ -34,34 +34,7 @@ last_set j k times now why e is place (suc at) before (x ∷ es) found =
 
 pub wait_waits : (j k : ℕ) (why : WaitsFor) (last : Option ℕ) (es : List Entry) → last ≡ last_wait k es
     → last_wait j (wait_noted k why last es) ≡ cond (k == j) (Some (wait_place k last es)) (last_wait j es)
-wait_waits j k why last es known = by (waited_before k last es) refl
-  where
-    found : (place times : ℕ) → times_at k place es ≡ Some times
-        → last_wait j (slice_set es place (entry_waited k (one_more times) why)) ≡ last_wait j es
-    found place times is = here (slice_get es place) refl is
-      where
-        here : (o : Option Entry) → slice_get es place ≡ o → elim o as (λ _. Option ℕ) [ None ↦ None | Some e ↦ times_in k e ] ≡ Some times
-            → last_wait j (slice_set es place (entry_waited k (one_more times) why)) ≡ last_wait j es
-        here None at is = absurd cc
-        here (Some e) at is = last_set j k times (one_more times) why e is 0 place None es at
-
-    still : (place : ℕ) (b : Bool) → (k == j) ≡ b → Some place ≡ last_wait k es → last_wait j es ≡ cond b (Some place) (last_wait j es)
-    still place true same is = ap (λ (n : ℕ). last_wait n es) (sym (eqb-true k j same)) ∙ sym is
-    still place false same is = refl
-
-    placed : (l : Option ℕ) (times : ℕ) → l ≡ last_wait k es → waited_before k l es ≡ Some times
-        → last_wait j (slice_set es (unwrap_or l 0) (entry_waited k (one_more times) why)) ≡ cond (k == j) (Some (unwrap_or l 0)) (last_wait j es)
-    placed None times at is = absurd cc
-    placed (Some place) times at is = found place times is ∙ still place (k == j) refl at
-
-    by : (o : Option ℕ) → waited_before k last es ≡ o
-        → last_wait j (elim o as (λ _. List Entry) [
-          | None ↦ es ++ entry_waited k 1 why ∷ []
-          | Some times ↦ slice_set es (unwrap_or last 0) (entry_waited k (one_more times) why)
-        ])
-        ≡ cond (k == j) (Some (elim o as (λ _. ℕ) [ None ↦ length es | Some times ↦ unwrap_or last 0 ])) (last_wait j es)
-    by None is = last_snoc j 0 None es (entry_waited k 1 why) ∙ ap (λ (n : ℕ). cond (k == j) (Some n) (last_wait j es)) (omega arith)
-    by (Some times) is = placed last times known is
+wait_waits j k why last es known = grind (arith, common_steps, last_set, eqb-true, last_snoc)
 
 -- What the calls of a step leave of it.
 abbrev pub waits_noted : List Made → Option ℕ → Option ℕ

@@ -2,10 +2,10 @@
 use Rattle.std.proofs.lemmas.Grind.{common_steps}
 use Rattle.std.proofs.Common.{◌≡◌, ◌==◌, ◌-◌, ℕ, zero, suc, Bool, true, false, cond, List, [], ◌∷◌, Option, Some, None, refl, sym, ap, subst, ◌∙◌, arith, slice_get}
 use Rattle.std.{proofs.lemmas.{List.Elements.{All-cons, All-head, All-nil, All-tail}, Option.same_Some}, specs.{List.All, Option.{ForSome, option_map}}}
-use Rattle.vs_flow.specs.{Connection.Connection, Table.Table, declared.flow.Flow.Flow}
+use Rattle.vs_flow.specs.{Table.Table, declared.flow.Flow.Flow}
 use Rattle.vs_limits.specs.declared.TheConstants.{ASSIGNED_FIRST, DEVICE_CONNECTIONS, FIRST_CID}
 use Rattle.vs_outside.specs.{Host.{HostContents, Stream, is_waiting, stream_at}, HostProgram.is_closed}
-use Rattle.vs_page.specs.{Log.{Device, Driver, Log, events_put, flow_got, packets_got}, Open.{cid_of, is_dropped}, declared.log.LogEntry.TheVariants.{GotPacket, Mark}}
+use Rattle.vs_page.specs.{Log.{Device, Driver, Log, flow_got, packets_got}, Open.{cid_of, is_dropped}, declared.log.LogEntry.TheVariants.{GotPacket, Mark}}
 use Rattle.vs_page.proofs.Flows.{same_self}
 use Rattle.vs_ring_port.specs.EndLog.{EndLog}
 use Rattle.vs_ring_shared.specs.Sights.{DeviceSight, Sight, device_contents, device_log}
@@ -14,7 +14,7 @@ use Rattle.vs_device_parts.specs.{Calls.Situation, Playing.Runs, State.DeviceCon
 use Rattle.laws_device.specs.Carried.Streamed.{IsShaking, IsStreamed, Ports, Seen, client_waits, lasting, look, ports_of, seen, seen_as}
 use Rattle.laws_device.proofs.Carried.{Changing.no_labels, Hosts.there}
 use Rattle.laws_proxy.specs.Honest.{IsProxyStreamedSince}
-use Rattle.laws_rest.{specs.{Calm.resets_in, Rest.has_no_mark}, proofs.Standing.{AreKept, device_kept}}
+use Rattle.laws_rest.{specs.{Rest.has_no_mark}, proofs.Standing.{AreKept, device_kept}}
 use Rattle.vs_proxy_parts.specs.{State.ProxyState, Turns.{new_proxy, turn_of}, declared.answers.Turn.Turn}
 use Rattle.laws_proxy.proofs.Ordered.{turn_streamed}
 use Rattle.laws_settled.{specs.{Begun.{AreUnaccepted, DropsNone, IsBegun, IsKept, IsUnlabelled, Start, start_with}, Settled.{IsSettled, IsSteady}}, proofs.Tallying.{Drops, Tallies, turn_tallies}}
@@ -57,10 +57,7 @@ module _ (h : HostContents) (unlabelled : IsUnlabelled h) where
 
   begins_streamed : (port : Ports) (t : Table DeviceConnection) → t.entries ≡ [] → (port.serving.given ≡ 0) × (port.serving.room ≡ DEVICE_CONNECTIONS)
       → (port.fresh ≡ true → AreUnaccepted h) → IsStreamed h [] port t []
-  begins_streamed port t empty slots fresh =
-      no_labels h port t empty slots unlabelled.0
-      (λ id s k is label. let no : ◌≡◌ {A = Option Connection} None (Some k) = sym (plain id s is).0 ∙ label in absurd cc)
-      (λ id s is waits. (plain id s is).1 waits) (λ known. none_shaking h (fresh known))
+  begins_streamed port t empty slots fresh = grind (arith, common_steps, no_labels, plain, none_shaking)
 
 -- THE BEGINNING
 pub new_begun : (base : List ℕ) (a : Situation) (l : EndLog) → a.ring.log ≡ Some l → l.entries ≡ []
@@ -89,9 +86,7 @@ first_cid first (Mark cid ∷ log) marks = absurd cc
 first_cid first (_ ∷ log) marks = first_cid first log marks
 
 unmarked : (s : ProxyState) (a : Situation) → IsSteady s a → (l : EndLog) → a.ring.log ≡ Some l → has_no_mark l.entries ≡ true
-unmarked s a steady l is =
-    ap (λ (x : Bool × List ℕ). x.0)
-    (same_Some (has_no_mark l.entries, events_put l.entries) (true, []) (ap resets_in (sym is) ∙ steady.no_reset))
+unmarked s a steady l is = grind (arith, common_steps, same_Some)
 
 drops_at : (s : ProxyState) (a : Situation) → IsSteady s a → DropsNone s a.ring → Drops FIRST_CID s.device.cid s.device.dropped a.ring
 drops_at s a steady drops on l is =

@@ -131,10 +131,7 @@ page_stays : (page : Option Chain) (c d : RingContents) → d ≡ c → InPage p
 page_stays page c d same told = subst (λ (x : RingContents). InPage page x) (sym same) told
 
 call_told : (call : Call) (a : Answer call) (s t : Situation) → Allows call a s t → Told s.ring → Told t.ring
-call_told (Ring call) a s t allowed told = ring_told call a s t allowed told
-call_told (ReadStream stream n) a s t allowed told = page_stays None s.ring t.ring allowed.0.ring told
-call_told (WriteStream stream bytes) a s t allowed told = page_stays None s.ring t.ring allowed.0.ring told
-call_told _ a s t allowed told = page_stays None s.ring t.ring allowed.ring told
+call_told call a s t = grind (arith, common_steps, ring_told, page_stays)
 
 taken_in : (chain : Chain) (page : Option (List ℕ)) (l : EndLog) → IsTakenAs Tx (next.Chain chain) page
     → length (bytes_in chain (log_taken Tx (next.Chain chain) page l).held) ≡ chain.readable
@@ -346,11 +343,7 @@ byte_read h hands port s (read.Got n) bytes d at = record {
 byte_read h hands port s _ bytes d at = at
 
 shakes : Shakes calls (Between D)
-shakes = record {
-  drops = λ h hands port s c on at. (tt, λ a d allowed. (at.0, call_told (CloseStream h.stream) a c d allowed at.1));
-  accepts = λ hands port s c at. (tt, λ a d allowed. accepted_by hands port s a d (at.0, call_told Accept a c d allowed at.1));
-  reads = λ h hands port s c on at. (tt, λ a d allowed. byte_read h hands port s a.0 a.1 d (at.0, call_told (ReadStream h.stream 1) a c d allowed at.1));
-}
+shakes = grind (arith, common_steps, call_told, accepted_by, byte_read)
 
 pub exact_turns : (size now : ℕ) (s : ProxyState) (a b : Situation) (x : ProxyState × Turn) (l : EndLog) → a.ring.log ≡ Some l → AreExact s.device.table
     → Runs (turn_of size now s) a x b → AreExact x.0.device.table

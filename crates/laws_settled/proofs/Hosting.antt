@@ -1,7 +1,7 @@
 -- Each step of the device keeps its flows and its packets with the host, where it asks for no other flow.
-use Rattle.std.proofs.{Common.{◌≡◌, ◌&&◌, ℕ, Bool, true, false, cond, List, [], ◌∷◌, ◌++◌, refl, ap, subst, ◌∙◌, arith}, lemmas.{Grind.common_steps, List.Elements.All-cons}}
+use Rattle.std.proofs.{Common.{◌≡◌, ℕ, Bool, true, false, cond, List, [], ◌∷◌, ◌++◌, refl, ap, subst, ◌∙◌, arith}, lemmas.{Grind.common_steps, List.Elements.All-cons}}
 use Rattle.std.specs.List.{All}
-use Rattle.vs_conn.specs.{End.{ConnectionEnd, end_after, is_of}, declared.end.Owed.Owed}
+use Rattle.vs_conn.specs.{End.{ConnectionEnd}, declared.end.Owed.Owed}
 use Rattle.vs_flow.specs.{Flow.same_flow, declared.flow.Flow.Flow}
 use Rattle.vs_header.specs.declared.{Header.Header, Kind.Kind}
 use Rattle.laws_history.specs.{Packets.{is_request, is_rst}, declared.packet.Packet.Packet}
@@ -9,7 +9,7 @@ use Rattle.vs_limits.specs.declared.TheConstants.{HOST_CID}
 use Rattle.vs_page.{specs.{Log.{Device, Log, flow_got, packets_put}, Open.is_dropped}, proofs.Flows.same_is}
 use Rattle.vs_replies.specs.declared.Reply.{Reply}
 use Rattle.laws_tables.specs.Both.{Asks, Decides, MakesReset, Opens, Pays, PutsEvent, Replies, Seat, Sends, Step, Takes, TakesEvent, TakesReset, after, after_packet}
-use Rattle.laws_tables.specs.{Both.answered, Ends.{Ends, FlowEnd, answer_kind, ends_of, flows_of, replaced, replied, without_flow}, Steps.{is_kept, owed_on, paid, payload_on}}
+use Rattle.laws_tables.specs.{Both.answered, Ends.{Ends, FlowEnd, ends_of, flows_of, replaced, replied, without_flow}, Steps.{owed_on, paid, payload_on}}
 use Rattle.laws_tables.specs.Steps.{reply_on, request_on, taken, with_clean}
 use Rattle.laws_device.proofs.Seats.{IsAsked}
 use Rattle.laws_tables.proofs.Going.{MayDo}
@@ -75,20 +75,14 @@ module _ (part : Ends) (log : Log) (is : IsHosts part log) (p : Packet) (host : 
   Still new = AreWithHost (flows_of new.entries) × AreWithHost (replied new.replies)
 
   accepts : (request answer : Bool) → Still (answered request answer p f part)
-  accepts true true = (added f _ part.entries is.entries host, is.replies)
-  accepts true false = (is.entries, owed_more f (answer_kind p.header.kind) part.replies is.replies host)
-  accepts false answer = (is.entries, owed_more f (answer_kind p.header.kind) part.replies is.replies host)
+  accepts request answer = grind (arith, common_steps, added, owed_more)
 
   keeps_clean : (b : Bool) (new : Ends) → Still new → Still (with_clean b f new)
   keeps_clean true new still = still
   keeps_clean false new still = still
 
   hears : (e : ConnectionEnd) → Still (taken Device f e p part)
-  hears e = by (is_rst p && is_of e.kind p.header) (is_kept Device f e p) (end_after e p.header)
-    where
-      by : (b c : Bool) (new : ConnectionEnd) → Still (cond b (with_clean c f (record part { entries = without_flow f part.entries })) (record part { entries = replaced f new part.entries }))
-      by true c new = keeps_clean c (record part { entries = without_flow f part.entries }) (without_still f part.entries is.entries, is.replies)
-      by false c new = (replaced_still f new part.entries is.entries, is.replies)
+  hears e = grind (arith, common_steps, keeps_clean, without_still, replaced_still)
 
   comes : (ends : List ConnectionEnd) (answer : Bool) → Still (after_packet Device ends p f answer part)
   comes [] answer = by (is_rst p) (accepts (is_request p) answer)

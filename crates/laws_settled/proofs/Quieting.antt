@@ -125,13 +125,7 @@ pumps_by t u c m None is runs none =
 
 says : (s : ProxyState) (l : Turning) (t : Turned) → turned s l ≡ turn.Turned t
     → (l.state.device.failed ≡ None) × (l.put ≡ t.put) × (l.wrote ≡ t.wrote) × (l.read ≡ t.read) × (l.hands ≡ t.hands)
-says s l t answer = let is = turn_says s l t answer in (
-  is.0,
-  ap (λ (u : Turned). u.put) is.1,
-  ap (λ (u : Turned). u.wrote) is.1,
-  ap (λ (u : Turned). u.read) is.1,
-  ap (λ (u : Turned). u.hands) is.1,
-)
+says s l t answer = grind (arith, common_steps, turn_says)
 
 told_taken : (o p : Option Known) → Relates o p (StopsAt Rx) → ForSome p (λ k. k.rx.told ≤ k.rx.taken)
 told_taken o p stops = grind (arith, common_steps)
@@ -237,6 +231,4 @@ module _ (port size now : ℕ) (s : ProxyState) (a b : Situation) (x : ProxyStat
 -- It left the ring sound.
 pub turn_sound : (size now : ℕ) (s : ProxyState) (a b : Situation) (x : ProxyState × Turn) (t : Turned) → Runs (turn_of size now s) a x b
     → x.1 ≡ turn.Turned t → x.0.device.failed ≡ None
-turn_sound size now s a b x t runs answer =
-    let stage = last_stage size now s a b x runs in
-    ap (λ (p : ProxyState). p.device.failed) (sym stage.state) ∙ (says s stage.last t (stage.answer ∙ answer)).0
+turn_sound size now s a b x t runs answer = grind (arith, common_steps, last_stage, says)

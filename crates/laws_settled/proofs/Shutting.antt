@@ -1,8 +1,8 @@
 -- Through a turn the device shuts the receiving of a connection only where the host's program closed its stream.
 use Rattle.std.proofs.lemmas.Grind.{common_steps}
-use Rattle.std.proofs.Common.{◌≡◌, ℕ, zero, suc, ◌-◌, ◌==◌, ◌||◌, not, Bool, true, false, cond, List, [], ◌∷◌, ◌++◌, length, get_or, Option, Some, None, refl, sym, ap, subst}
+use Rattle.std.proofs.Common.{◌≡◌, ℕ, zero, suc, ◌-◌, ◌==◌, ◌||◌, not, Bool, true, false, cond, List, [], ◌++◌, length, get_or, Option, Some, None, refl, sym, ap, subst}
 use Rattle.std.proofs.{Common.{◌∙◌, arith, drop, take}, lemmas.{Bool.{eq-eqb, eqb-true}, List.Elements.{All-contains, All-filter, All-map, All-push}, Option.same_Some}}
-use Rattle.std.specs.{Option.{ForSome}, Prelude.slice_get}
+use Rattle.std.specs.{Option.{ForSome}}
 use Rattle.vs_contents.specs.Contents.{Exposes}
 use Rattle.vs_conn.{specs.{End.{answering, asked, paid_of, wanting_credit, with_payload_sent}, Headers.payload_header, Shut.neither}, proofs.Frames.{got_own, paid_own}}
 use Rattle.vs_flow.specs.{Table.{Table, next_entry, revalued, with_entry, with_value, without}, declared.flow.Flow.Flow}
@@ -10,7 +10,7 @@ use Rattle.vs_header.specs.declared.{Header.Header, Kind.TheVariants.Stream}
 use Rattle.vs_limits.specs.declared.TheConstants.{BUF_ALLOC}
 use Rattle.vs_page.specs.Log.{flow_to_host}
 use Rattle.vs_uds.specs.OkLine.{ok_text}
-use Rattle.vs_outside.specs.Host.{HostContents, Stream as HostStream, after_accept, after_dial, after_read, after_write, called, dialed_stream, fails_now, stream_at}
+use Rattle.vs_outside.specs.Host.{HostContents, Stream as HostStream, after_accept, after_dial, after_read, after_write, called, stream_at}
 use Rattle.vs_outside.specs.Host.{with_label_call, with_shut_write_call, with_stream, write_answer, give_bytes, read_answer, take_bytes}
 use Rattle.vs_outside.{specs.declared.host_net.{Accepted.Accepted, Dialed.Dialed, StreamRead.StreamRead, StreamWrite.StreamWrite}, proofs.Frames.{keeps_others, slice_get-append}}
 use Rattle.vs_outside.proofs.Frames.{stream_at-with_stream, stream_place}
@@ -55,20 +55,7 @@ stays_none : (h : HostContents) → Stay h h
 stays_none h id s at = (s, at, refl, λ none. none)
 
 dial_stays : (flow : Flow) (a : Dialed) (h : HostContents) → Stay h (after_dial flow a h)
-dial_stays flow (dialed.Stream id) h = λ other s at.
-    let place = stream_place other h s at in (
-      s,
-      ap (λ (b : Bool). let o : Option HostStream = cond b None (slice_get (h.streams ++ dialed_stream flow h.prepared ∷ []) (other - 1)) in o) place.0
-          ∙ slice_get-append h.streams (dialed_stream flow h.prepared ∷ []) (other - 1) s place.1,
-      refl,
-      λ none. none,
-    )
-dial_stays flow dialed.Refused h = stays_none h
-dial_stays flow dialed.Failed h = by (fails_now h)
-  where
-    by : (b : Bool) → Stay h (cond b (called h) (record (called h) { starved = true }))
-    by true = stays_none h
-    by false = stays_none h
+dial_stays flow a h = grind (arith, common_steps, stream_place, slice_get-append, stays_none)
 
 accept_stays : (a : Accepted) (h : HostContents) → Stay h (after_accept a h)
 accept_stays (accepted.Stream id) h = stream_stays id (λ s. record s { state = state.Open }) (called h) (λ s. (refl, λ none. none))

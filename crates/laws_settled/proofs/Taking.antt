@@ -1,6 +1,6 @@
 -- A poll counts each page of rx that it takes back.
 use Rattle.std.proofs.lemmas.Grind.{common_steps}
-use Rattle.std.proofs.Common.{◌≡◌, ◌+◌, ◌==◌, ℕ, zero, suc, nat_le, nat_lt, Bool, true, false, cond, List, [], ◌∷◌, length, Option, Some, None, refl, sym, ap, subst, ◌∙◌, arith}
+use Rattle.std.proofs.Common.{◌≡◌, ◌+◌, ◌==◌, ℕ, zero, suc, nat_lt, Bool, true, false, cond, List, [], ◌∷◌, length, Option, Some, None, refl, sym, ap, subst, ◌∙◌, arith}
 use Rattle.vs_contents.specs.{CallTree.{Ask, Done, bind, for_each, while_up_to}, Contents.Relates}
 use Rattle.vs_flow.specs.Table.{slots}
 use Rattle.vs_limits.specs.declared.TheConstants.{DRIVER_REPLIES_FULL, OWED_MAX, STAGED_MAX}
@@ -119,11 +119,7 @@ packet_back r (Some page) m is =
     (λ s d same. ap (λ (k : ℕ). k + 1) is ∙ sym same)
 
 takes_packet : (r : Round) (m : ℕ) → Counted r m → Walks (λ x d. Counted x.0 d) (take_packet r) m
-takes_packet r m is = by (nat_le DRIVER_REPLIES_FULL (length r.state.replies))
-  where
-    by : (b : Bool) → Walks (λ x d. Counted x.0 d) (cond b (Done (r, false)) (Ask (Reap Rx) (packet_reaped r))) m
-    by true = is
-    by false = λ page. packet_back r page m is
+takes_packet r m is = grind (arith, common_steps, packet_back)
 
 takes_packets : (s : DriverState) → Walks Counted (take_all Rx take_packet s) 0
 takes_packets s =

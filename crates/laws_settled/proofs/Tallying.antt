@@ -20,7 +20,6 @@ use Rattle.laws_device.proofs.{Ringing.bytes_held, Transmitting.header_is, Walk.
 use Rattle.laws_device.{proofs.Walk.{Taking.{AfterDial, Takes}, Turning.{AfterAccept, AfterByte, Between, Shakes, keeps_turn}}, specs.Walk.Seen.{Seen, seen}}
 use Rattle.laws_settled.specs.Begun.{CountsFailed, IsKept}
 use Rattle.vs_outside.specs.declared.host_net.StreamRead.TheVariants as read
-use Rattle.vs_outside.specs.declared.host_net.StreamWrite.TheVariants as write
 use Rattle.vs_ring_port.specs.declared.device_ring.Next.TheVariants as next
 use Rattle.laws_device.proofs.Walk.Serving as serving
 use Rattle.laws_device.proofs.Walk.Taking as taking
@@ -172,11 +171,7 @@ module _ (cid first : ℕ) (path : List ℕ) where
 
   ring_go : (call : DeviceCall) (a : DeviceAnswer call) (c d : Situation) (base : List ℕ) (own dropped counted : ℕ) → IsOther call → Allows (Ring call) a c d
       → Tallies base own dropped counted c → Tallies base own dropped counted d
-  ring_go call a c d base own dropped counted other made at = record {
-    based = at.based;
-    drops = drops_still cid own dropped c.ring d.ring (ring_follows call a c d other made) at.drops;
-    failed = rises false first counted c.faults d.faults made.2 at.failed;
-  }
+  ring_go call a c d base own dropped counted other made at = grind (arith, common_steps, drops_still, ring_follows, rises)
 
   written_tallies : (base : List ℕ) (own dropped counted : ℕ) (chain : Chain) (h : Header) (payload : List ℕ) (c : Situation) → Tallies base own dropped counted c
       → Keeps allowed (λ x d. Tallies base own dropped counted d) (written chain h payload) c
@@ -190,25 +185,14 @@ module _ (cid first : ℕ) (path : List ℕ) where
 
   module _ (hands : List Handshake) where
     closes : Closes allowed (D hands)
-    closes = record {
-      cuts = λ e s c is at still a d made. host_go c d s.base s.cid s.dropped s.faults false made.ring made.faults at;
-      was_cut = λ e s c is at closed. at;
-      leaves = λ page e v s c is closed stream at still a d made. host_go c d s.base s.cid s.dropped s.faults false made.ring made.faults at;
-      was_left = λ page e v s c is closed stream at gone. at;
-    }
+    closes = grind (arith, common_steps, host_go)
 
     wrote : (e : DeviceEntry) (s : DeviceState) (a : StreamWrite) (c d : Situation) → d.ring ≡ c.ring → CountsFault (write_failed a) c.faults d.faults
         → D hands None (seen s) c → AfterWrite allowed (D hands) e s a d
-    wrote e s (write.Took n) c d same counts at = host_go c d s.base s.cid s.dropped s.faults false same counts at
-    wrote e s write.Again c d same counts at = host_go c d s.base s.cid s.dropped s.faults false same counts at
-    wrote e s write.Closed c d same counts at = host_go c d s.base s.cid s.dropped s.faults false same counts at
-    wrote e s write.Failed c d same counts at = host_fault c d s.base s.cid s.dropped s.faults _ same counts at
+    wrote e s a c d = grind (arith, common_steps, host_go, host_fault)
 
     writes : Writes allowed (D hands)
-    writes = record {
-      writes = λ e s c is still at a d made. wrote e s a c d made.0.ring made.0.faults at;
-      shuts = λ e s c is out at a d made. host_go c d s.base s.cid s.dropped s.faults false made.ring made.faults at;
-    }
+    writes = grind (arith, common_steps, wrote, host_go)
 
     held : (s : DeviceState) (n : Next) (d : Situation) → D hands None (seen s) d → serving.AfterTake allowed (D hands) s n d
     held s (next.Chain chain) d at = at
@@ -253,15 +237,7 @@ module _ (cid first : ℕ) (path : List ℕ) where
       kept_so = record { based = at.based; drops = λ on l is. let so = came_so on l is in (so.0, λ all. (so.1 all).0); failed = failed_so }
 
       dropped_so : (new : ℕ) → is_dropped Device s.cid (header_of bytes) ≡ true → Tallies s.base s.cid new s.faults e
-      dropped_so new is = record {
-        based = at.based;
-        drops = λ on l there. let so = came_so on l there in (
-          so.0,
-          λ all. absurd (let no = (so.1 all).1 in let yes = ap (λ (n : ℕ). is_dropped Device n (header_of bytes)) (sym so.0) ∙ is in
-              let both : true ≡ false = sym yes ∙ no in cc),
-        );
-        failed = failed_so;
-      }
+      dropped_so new is = grind (arith, common_steps, came_so, failed_so)
 
     -- No page was there, or the ring failed: no packet was got.
     none_taken : (s : DeviceState) (n : Next) (c d : Situation) → chain_of n ≡ None → Allows (Ring (Take Tx)) n c d → D hands None (seen s) c
@@ -312,11 +288,7 @@ module _ (cid first : ℕ) (path : List ℕ) where
   byte_read h hands port s read.Failed bytes c d same counts at = host_fault c d s.base s.cid s.dropped s.faults _ same counts at
 
   shakes : Shakes allowed (Between D)
-  shakes = record {
-    drops = λ h hands port s c on at a d made. host_go c d s.base s.cid s.dropped s.faults false made.ring made.faults at;
-    accepts = λ hands port s c at a d made. accepted_by hands port s a c d made.ring made.faults at;
-    reads = λ h hands port s c on at a d made. byte_read h hands port s a.0 a.1 c d made.0.ring made.0.faults at;
-  }
+  shakes = grind (arith, common_steps, host_go, accepted_by, byte_read)
 
   pub turn_tallies : (size now : ℕ) (s : ProxyState) (a b : Situation) (x : ProxyState × Turn)
       → Tallies s.device.base s.device.cid s.device.dropped s.device.faults a → Runs (turn_of size now s) a x b
